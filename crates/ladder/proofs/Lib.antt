@@ -1,0 +1,4 @@
+pub mod Nearests
+pub mod Steps
+pub mod Starts
+pub mod Bandings

@@ -1,0 +1,6 @@
+pub mod Rungs
+pub mod Multiples
+pub mod Bands
+pub mod Rows
+pub mod Limits
+pub mod Eithers
