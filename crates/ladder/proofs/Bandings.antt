@@ -7,17 +7,11 @@ use native.Mathlib.Omega.{arith}
 use Rattle.std.proofs.shelf.Tests.{cases-order}
 use Rattle.std.proofs.shelf.Ways.{tells}
 use Rattle.std.specs.declared.option.Option.{Option}
-use Rattle.ladder.specs.Rungs.{In, Lowest, Highest}
+use Rattle.ladder.specs.Rungs.{Rungs, In, Lowest, Highest}
 use Rattle.ladder.specs.Multiples.{multiples}
 use Rattle.ladder.specs.Bands.{start, stepOf, rowOf, banded}
-use Rattle.ladder.proofs.Nearests.{Direction, Detour, nearest-moves}
+use Rattle.ladder.proofs.Nearests.{upward, downward, Detour, nearest-moves}
 use Rattle.ladder.proofs.Starts.{start-mono, first-start, last-start, fits-at, row-in, row-below, row-of-start}
-
-pub upward : Direction (λ a b. a ≤ b)
-upward = record { joins = λ a b c x y. omega arith; meets = λ a b x y. omega arith }
-
-pub downward : Direction (λ a b. b ≤ a)
-downward = record { joins = λ a b c x y. omega arith; meets = λ a b x y. omega arith }
 
 -- where a row starts is a rung of each step that divides it
 start-on : (r s : ℕ) → 0 < r → r < 19 → start r % s ≡ 0 → In (multiples s) (start r)

@@ -1,4 +1,4 @@
 pub mod Nearests
-pub mod Steps
+pub mod Roundings
 pub mod Starts
 pub mod Bandings

@@ -1,11 +1,11 @@
 -- The tick table: rows of prices, and for each row a step in each of six liquidity bands. Assumes nothing.
-use mathlib.Core.Bool.{Bool, cond}
+use mathlib.Core.Bool.{cond}
 use mathlib.Core.List.{[], _∷_}
 use Prim.Native.Nat.{ℕ, zero, suc, _+_, _-_, _*_, _/_, _%_, _^_}
 use lib.Dec.{eqb, leb}
 use lib.ListN.{getD}
 use Rattle.terms.specs.Prices.{IsPrice}
-use Rattle.ladder.specs.Rungs.{In}
+use Rattle.ladder.specs.Rungs.{Rungs, In}
 use Rattle.ladder.specs.Multiples.{multiples, multiples-priced}
 
 -- 1, 2, 5, 10, 20, 50, 100, ..: the n-th of them, counted from 0
@@ -30,7 +30,7 @@ unfoldable pub rowOf : ℕ → ℕ
 rowOf p = rowTo 18 p
 
 -- the rungs of band c: the prices that are a multiple of their row's step
-abbrev pub banded : ℕ → ℕ → Bool
+abbrev pub banded : ℕ → Rungs
 banded c p = multiples (stepOf (rowOf p) c) p
 
 -- each is a price

@@ -4,3 +4,4 @@ pub mod Bands
 pub mod Rows
 pub mod Limits
 pub mod Eithers
+pub mod Laws

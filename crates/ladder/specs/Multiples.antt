@@ -1,13 +1,13 @@
 -- The prices that are a multiple of a step. Assumes nothing.
 use mathlib.Core.Path.{_≡_}
-use mathlib.Core.Bool.{Bool, true, _&&_}
+use mathlib.Core.Bool.{true, _&&_}
 use Prim.Native.Nat.{ℕ, _%_}
 use lib.Dec.{eqb, leb}
 use Rattle.std.proofs.shelf.Tests.{and-parts, leb-true}
 use Rattle.terms.specs.Prices.{isPrice, IsPrice}
-use Rattle.ladder.specs.Rungs.{In}
+use Rattle.ladder.specs.Rungs.{Rungs, In}
 
-abbrev pub multiples : ℕ → ℕ → Bool
+abbrev pub multiples : ℕ → Rungs
 multiples step p = isPrice p && eqb (p % step) 0
 
 -- each is a price

@@ -10,18 +10,18 @@ abbrev pub Rungs : Type 0
 Rungs = ℕ → Bool
 
 -- p is a rung
-abbrev pub In : (ℕ → Bool) → ℕ → Type 0
+abbrev pub In : Rungs → ℕ → Type 0
 In rungs p = rungs p ≡ true
 
 -- the first rung from p on, in the direction in which `ahead a b` says that b is at a or farther on; or none
-abbrev pub Nearest : (ℕ → ℕ → Type 0) → (ℕ → Bool) → ℕ → Option ℕ → Type 0
+abbrev pub Nearest : (ℕ → ℕ → Type 0) → Rungs → ℕ → Option ℕ → Type 0
 Nearest ahead rungs p None = (k : ℕ) → ahead p k → In rungs k → ⊥
 Nearest ahead rungs p (Some q) = In rungs q × ahead p q × ((k : ℕ) → ahead p k → In rungs k → ahead q k)
 
 -- the lowest rung at or above p, or none
-abbrev pub Lowest : (ℕ → Bool) → ℕ → Option ℕ → Type 0
+abbrev pub Lowest : Rungs → ℕ → Option ℕ → Type 0
 Lowest rungs p r = Nearest (λ a b. a ≤ b) rungs p r
 
 -- the highest rung at or below p, or none
-abbrev pub Highest : (ℕ → Bool) → ℕ → Option ℕ → Type 0
+abbrev pub Highest : Rungs → ℕ → Option ℕ → Type 0
 Highest rungs p r = Nearest (λ a b. b ≤ a) rungs p r

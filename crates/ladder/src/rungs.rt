@@ -1,14 +1,13 @@
 ghost use mathlib.Core.Path.{_≡_};
-ghost use mathlib.Core.Bool.{Bool};
 ghost use Prim.Native.Nat.{ℕ};
 ghost use denote.Ref.{now};
 ghost use Rattle.terms.specs.Prices.{IsPrice};
-ghost use Rattle.ladder.specs.Rungs.{In, Lowest, Highest};
+ghost use Rattle.ladder.specs.Rungs.{Rungs, In, Lowest, Highest};
 
 /// A ladder is a set of prices, its rungs. It answers three questions about any number.
 pub trait Ladder {
     // The set.
-    ghost rungs: { Self → ℕ → Bool };
+    ghost rungs: { Self → Rungs };
 
     // Every rung is a price.
     ghost priced: { (s : Self) (p : ℕ) → In (rungs s) p → IsPrice p };

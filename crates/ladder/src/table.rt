@@ -57,7 +57,7 @@ impl Table {
         ensures { λ r. ⌜ r .step ≡ stepOf (rowOf p) (now (self .entry) .band) ⌝ }
     {
         Multiples {
-            step: row_step(row_of(p), self.band),
+            step: self.row_at(p).step,
         }
     }
 }

@@ -5,3 +5,6 @@ mod refusal;
 pub use price::MAX_PRICE;
 pub use price::is_price;
 pub use refusal::Refusal;
+pub use refusal::RefusalDebug;
+pub use refusal::RefusalEq;
+pub use refusal::RefusalPartialEq;

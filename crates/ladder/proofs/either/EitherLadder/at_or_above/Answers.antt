@@ -1,18 +1,18 @@
 use mathlib.Core.Bool.{Bool}
 use mathlib.Core.Path.{ap, subst⁻¹}
 use Prim.Native.Nat.{ℕ}
-use Rattle.ladder.specs.Rungs.{Lowest}
+use Rattle.ladder.specs.Rungs.{Rungs, Lowest}
 use Rattle.ladder.specs.Eithers.{either}
 use Rattle.ladder.proofs.either.EitherLadder.at_or_above.Needs as need
 
 pub returns-in-Left : need.returns-in-Left
 returns-in-Left g c =
-    subst⁻¹ (λ (rungs : ℕ → Bool). Lowest rungs (c .args .p) (c .at-or-above .result))
+    subst⁻¹ (λ (rungs : Rungs). Lowest rungs (c .args .p) (c .at-or-above .result))
     (ap (either (g .A·Ladder .rungs) (g .B·Ladder .rungs)) (c .in-Left .is))
     (c .at-or-above .ensures)
 
 pub returns-in-Right : need.returns-in-Right
 returns-in-Right g c =
-    subst⁻¹ (λ (rungs : ℕ → Bool). Lowest rungs (c .args .p) (c .at-or-above-in-Right .result))
+    subst⁻¹ (λ (rungs : Rungs). Lowest rungs (c .args .p) (c .at-or-above-in-Right .result))
     (ap (either (g .A·Ladder .rungs) (g .B·Ladder .rungs)) (c .in-Right .is))
     (c .at-or-above-in-Right .ensures)

@@ -2,7 +2,7 @@ use mathlib.Core.Path.{_≡_, ap}
 use Prim.Native.Nat.{ℕ, _*_}
 use native.Mathlib.Omega.{arith}
 use Rattle.std.proofs.shelf.Ways.{tells}
-use Rattle.ladder.proofs.Steps.{Up, up, goes-up}
+use Rattle.ladder.proofs.Roundings.{Up, up, goes-up}
 use Rattle.ladder.proofs.multiples.MultiplesLadder.at_or_above.Needs as need
 use Rattle.ladder.proofs.multiples.MultiplesLadder.at_or_above.Needs.{After-div-ceil}
 

@@ -5,6 +5,9 @@ use Prim.Native.Nat.{ℕ, _+_, _*_, _/_, _%_, _≤_, _<_, min}
 use native.Mathlib.Nat.{div-add-mod', mul-le-mul-right, add-mul, mod-lt, mul-mod-left}
 use native.Mathlib.Omega.{arith}
 use Rattle.std.proofs.shelf.Tests.{cases-lt}
+use Rattle.std.proofs.shelf.Ways.{tells}
+use Rattle.ladder.specs.Multiples.{multiples-priced}
+use Rattle.ladder.specs.Laws.{Whole-steps}
 
 -- two multiples that differ are a step apart
 apart : (s a b : ℕ) → a % s ≡ 0 → b % s ≡ 0 → a < b → a + s ≤ b
@@ -75,3 +78,14 @@ goes-up s x h =
       close = ends .1;
       best = λ k le hk. nearest s (up s x) k on hk (omega arith);
     }
+
+-- a price is a multiple when whole steps make it
+pub whole-steps : Whole-steps
+whole-steps step p = (
+  λ h.
+      let zero : p % step ≡ 0 = grind (arith, tells) in
+      (multiples-priced step p h, (p / step, omega (arith, div-add-mod' p step))),
+  λ price m is.
+      let zero : p % step ≡ 0 = rw is (mul-mod-left m step) in
+      grind (arith, tells),
+)

@@ -1,0 +1,15 @@
+-- Worked cases. Assumes nothing.
+use mathlib.Core.Path.{_≡_}
+use mathlib.Core.Bool.{true, false}
+use Rattle.std.specs.declared.option.Option.the-variants.{Some}
+use Rattle.ladder.specs.Rungs.{Lowest}
+use Rattle.ladder.specs.Multiples.{multiples}
+use Rattle.ladder.specs.Bands.{banded}
+use Rattle.ladder.specs.Limits.{limited}
+
+pub record WorkedCases : Type 0 where
+  -- in band 2 the lowest rung from 99,801 is 100,000
+  pub next-rung : Lowest (banded 2) 99801 (Some 100000)
+  -- of the flat ladder of step 1, 8 percent about 100,000 keeps 92,000 and not 91,999
+  pub edge-inside : limited (multiples 1) 100000 8 92000 ≡ true
+  pub edge-outside : limited (multiples 1) 100000 8 91999 ≡ false
