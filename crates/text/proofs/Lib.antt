@@ -1,0 +1,3 @@
+pub mod Amounts
+mod Numbers
+pub mod Splitting
