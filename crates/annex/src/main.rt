@@ -1,29 +1,24 @@
 //! Tries the steps of the table ladders against the tick table of the law, given as text on standard input.
 mod row;
+mod totals;
 mod trial;
 
 use std::error::AnyError;
 use std::io::BufRead;
 use std::io::BufReader;
-use trial::Trial;
+use totals::Totals;
 
-// A line for each line of the input, and then how many steps were tried and how many agree.
+// Prints a line for each line of the input, and then the totals.
 fn try_input(rt: &LibcRuntime) -> Result<(), AnyError> {
-    let mut number = 0u64;
-    let mut tried = 0u64;
-    let mut agreed = 0u64;
+    let mut totals = Totals {
+        lines: 0,
+        tried: 0,
+        agreed: 0,
+    };
     for line in BufReader::new(rt.stdin()).split(rt.alloc(), b'\n') {
-        number = number.saturating_add(1);
-        match Trial::of(&line?) {
-            Some(trial) => {
-                tried = tried.saturating_add(6);
-                agreed = agreed.saturating_add(trial.agreed());
-                rt.println(trial.line(rt.alloc())?)?;
-            }
-            None => println!(rt, "line {number} is not a row")?,
-        }
+        rt.println(totals.add(rt.alloc(), &line?)?)?;
     }
-    println!(rt, "{tried} steps tried, {agreed} agree")?;
+    rt.println(totals.line(rt.alloc())?)?;
     Ok(())
 }
 

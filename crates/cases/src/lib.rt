@@ -8,9 +8,12 @@ pub fn worked_cases()
 
 #[cfg(test)]
 mod tests {
+    use ladder::Either;
+    use ladder::EitherLadder;
     use ladder::Flat;
     use ladder::FlatLadder;
     use ladder::Ladder;
+    use ladder::LentLadder;
     use ladder::Limit;
     use ladder::LimitLadder;
     use ladder::Table;
@@ -41,7 +44,23 @@ mod tests {
     }
 
     #[test]
+    fn ladders_are_laid_over_ladders() -> Result<(), Fail> {
+        let mixed = [Either::Left(Flat::new(250)?), Either::Right(Table::new(2)?)];
+        let flat = Limit::new(Limit::new(&mixed[0], 100_000, 20)?, 100_000, 8)?;
+        check_eq(flat.at_or_below(99_999), Some(99_750))?;
+        check_eq(flat.at_or_above(108_001), None)?;
+        let table = Limit::new(Limit::new(&mixed[1], 100_000, 8)?, 100_000, 20)?;
+        check_eq(table.at_or_below(99_999), Some(99_800))?;
+        check_eq(table.at_or_above(108_001), None)
+    }
+
+    #[test]
     fn values_out_of_range_are_refused() -> Result<(), Fail> {
-        check_eq(Flat::new(0).err(), Some(Refusal::Parameter))
+        check_eq(Flat::new(0).err(), Some(Refusal::Parameter))?;
+        check_eq(Flat::new(1_000_001).err(), Some(Refusal::Parameter))?;
+        check_eq(Table::new(7).err(), Some(Refusal::Parameter))?;
+        let flat = Flat::new(1)?;
+        check(Limit::new(flat, 1_000_000_001, 8).is_err())?;
+        check(Limit::new(flat, 1, 101).is_err())
     }
 }
