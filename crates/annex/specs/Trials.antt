@@ -1,6 +1,6 @@
 -- Trials: a row that is given beside the row that the table ladders have. Assumes nothing.
 use mathlib.Core.Bool.{Bool, cond, _&&_}
-use mathlib.Core.List.{List, [], _∷_, _++_, map}
+use mathlib.Core.List.{List, [], _++_, map}
 use Prim.Native.Nat.{ℕ, zero, suc, _+_, min}
 use lib.Chars.{codes}
 use lib.Dec.{eqb}

@@ -1,13 +1,12 @@
 -- The nearest rung of a band is the nearest multiple of the step that holds there. Assumes nothing.
-use mathlib.Core.Path.{_≡_, refl, sym, ap, _∙_}
-use mathlib.Core.Bool.{Bool, true}
+use mathlib.Core.Path.{_≡_, sym, ap}
 use mathlib.Core.Logic.{_⊎_, inl, inr, ⊎-elim}
 use Prim.Native.Nat.{ℕ, suc, _%_, _≤_, _<_}
 use native.Mathlib.Omega.{arith}
 use Rattle.std.proofs.shelf.Tests.{cases-order}
 use Rattle.std.proofs.shelf.Ways.{tells}
 use Rattle.std.specs.declared.option.Option.{Option}
-use Rattle.ladder.specs.Rungs.{Rungs, In, Lowest, Highest}
+use Rattle.ladder.specs.Rungs.{In, Lowest, Highest}
 use Rattle.ladder.specs.Multiples.{multiples}
 use Rattle.ladder.specs.Bands.{start, stepOf, rowOf, banded}
 use Rattle.ladder.proofs.Nearests.{upward, downward, Detour, nearest-moves}

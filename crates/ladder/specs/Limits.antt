@@ -1,10 +1,9 @@
 -- A limit: the rungs of a ladder that are near a centre. Assumes nothing.
-use mathlib.Core.Path.{_≡_}
-use mathlib.Core.Bool.{Bool, true, _&&_}
+use mathlib.Core.Bool.{Bool, _&&_}
 use Prim.Native.Nat.{ℕ, _*_}
 use lib.Dec.{leb}
 use Rattle.std.proofs.shelf.Tests.{and-parts}
-use Rattle.terms.specs.Prices.{IsPrice, distance}
+use Rattle.terms.specs.Prices.{distance}
 use Rattle.ladder.specs.Rungs.{Rungs, In}
 
 -- p is at most `percent` hundredths of the centre away from it

@@ -1,6 +1,5 @@
 -- The prices that are a multiple of a step. Assumes nothing.
-use mathlib.Core.Path.{_≡_}
-use mathlib.Core.Bool.{true, _&&_}
+use mathlib.Core.Bool.{_&&_}
 use Prim.Native.Nat.{ℕ, _%_}
 use lib.Dec.{eqb, leb}
 use Rattle.std.proofs.shelf.Tests.{and-parts, leb-true}

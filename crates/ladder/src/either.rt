@@ -1,4 +1,3 @@
-ghost use mathlib.Core.Path.{_≡_};
 ghost use Rattle.ladder.specs.Eithers.{either, either-priced};
 use super::rungs::Ladder;
 

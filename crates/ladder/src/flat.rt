@@ -1,5 +1,5 @@
 ghost use mathlib.Core.Path.{_≡_};
-ghost use Prim.Native.Nat.{ℕ, _<_, _≤_};
+ghost use Prim.Native.Nat.{_<_, _≤_};
 ghost use Rattle.terms.specs.Prices.{within};
 ghost use Rattle.terms.specs.Refusals.{Admitted};
 ghost use Rattle.ladder.specs.Multiples.{multiples, multiples-priced};

@@ -1,7 +1,7 @@
 ghost use mathlib.Core.Path.{_≡_};
 ghost use mathlib.Core.Bool.{_&&_};
 ghost use lib.Dec.{leb};
-ghost use Prim.Native.Nat.{ℕ, _-_, _+_, _*_, _/_, _<_, _≤_};
+ghost use Prim.Native.Nat.{_*_, _/_, _<_, _≤_};
 ghost use Rattle.terms.specs.Prices.{isPrice};
 ghost use Rattle.terms.specs.Refusals.{Admitted};
 ghost use Rattle.ladder.specs.Limits.{limited, limited-in};

@@ -1,5 +1,4 @@
-ghost use mathlib.Core.Path.{_≡_};
-ghost use Prim.Native.Nat.{ℕ, _<_, _≤_};
+ghost use Prim.Native.Nat.{_<_, _≤_};
 ghost use Rattle.ladder.specs.Multiples.{multiples, multiples-priced};
 use super::rungs::Ladder;
 use terms::MAX_PRICE;

@@ -1,6 +1,6 @@
 -- The steps are the rule at each of their 114 places: antt computes that list, and one entry is read from it.
 use mathlib.Core.Path.{_≡_, _∙_}
-use Prim.Native.Nat.{ℕ, _+_, _-_, _*_, _/_, _%_}
+use Prim.Native.Nat.{_+_, _-_, _*_, _/_, _%_}
 use native.Mathlib.Omega.{arith}
 use Rattle.std.proofs.shelf.Counted.{getD-map-counting}
 use Rattle.ladder.specs.Bands.{stepOf, series}

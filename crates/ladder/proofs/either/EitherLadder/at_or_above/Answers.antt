@@ -1,6 +1,4 @@
-use mathlib.Core.Bool.{Bool}
 use mathlib.Core.Path.{ap, subst⁻¹}
-use Prim.Native.Nat.{ℕ}
 use Rattle.ladder.specs.Rungs.{Rungs, Lowest}
 use Rattle.ladder.specs.Eithers.{either}
 use Rattle.ladder.proofs.either.EitherLadder.at_or_above.Needs as need

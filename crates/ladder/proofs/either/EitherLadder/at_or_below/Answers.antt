@@ -1,6 +1,4 @@
-use mathlib.Core.Bool.{Bool}
 use mathlib.Core.Path.{ap, subst⁻¹}
-use Prim.Native.Nat.{ℕ}
 use Rattle.ladder.specs.Rungs.{Rungs, Highest}
 use Rattle.ladder.specs.Eithers.{either}
 use Rattle.ladder.proofs.either.EitherLadder.at_or_below.Needs as need

@@ -1,6 +1,6 @@
 use native.Mathlib.Omega.{arith}
 use Rattle.std.proofs.shelf.Ways.{tells}
-use Rattle.ladder.proofs.Roundings.{Down, goes-down}
+use Rattle.ladder.proofs.Roundings.{goes-down}
 use Rattle.ladder.proofs.multiples.MultiplesLadder.at_or_below.Needs as need
 
 pub returns-then-rung-gt0 : need.returns-then-rung-gt0
