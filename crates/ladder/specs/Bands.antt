@@ -16,7 +16,7 @@ series n = getD (1 ∷ 2 ∷ 5 ∷ []) (n % 3) 0 * 10 ^ (n / 3)
 unfoldable pub start : ℕ → ℕ
 start r = cond (eqb r 0) 0 (series (r + 8))
 
--- the step of row r in band c: a row on, the next of the series; a band on, the one before, but never below 1
+-- the step of row r in band c: a row on, the next of the series; a band on, the one before, and 1 where there is none before (- stops at 0)
 unfoldable pub stepOf : ℕ → ℕ → ℕ
 stepOf r c = series (r + 3 - c)
 
