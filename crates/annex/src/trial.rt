@@ -1,6 +1,5 @@
 ghost use mathlib.Core.Path.{_≡_};
 ghost use mathlib.Core.List.{_++_};
-ghost use Prim.Native.Nat.{_≤_};
 ghost use Rattle.std.specs.Of.String.{string-bytes};
 ghost use Rattle.std.specs.Vec.{made};
 ghost use Rattle.annex.specs.Trials.{tableRow, tried, agreed, beside, besides, verdict, shownTrial};
@@ -30,8 +29,7 @@ impl Trial {
 
     /// How many of the six steps agree.
     pub fn agreed(&self) -> u64
-        ensures value { λ r. ⌜ r ≡ agreed (now (self .entry)) ⌝ }
-        ensures bound { λ r. ⌜ r ≤ 6 ⌝ }
+        ensures { λ r. ⌜ r ≡ agreed (now (self .entry)) ⌝ }
     {
         let mut count = 0;
         for i in 0..6 {

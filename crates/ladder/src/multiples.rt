@@ -22,6 +22,7 @@ pub impl Ladder for Multiples as MultiplesLadder {
     }
 
     fn at_or_above(&self, p: u32) -> Option<u32> {
+        // no rung is so high, and below the product fits
         if p > MAX_PRICE {
             return None;
         }
