@@ -8,7 +8,7 @@ use Rattle.ladder.specs.Bands.{banded}
 use Rattle.ladder.specs.Limits.{limited}
 
 pub record WorkedCases : Type 0 where
-  -- in band 2 the lowest rung from 99,801 is 100,000
+  -- going up from 99,801 band 2 meets 100,000 first
   pub next-rung : Lowest (banded 2) 99801 (Some 100000)
   -- of the flat ladder of step 1, 8 percent about 100,000 keeps 92,000 and not 91,999
   pub edge-inside : limited (multiples 1) 100000 8 92000 ≡ true

@@ -16,7 +16,7 @@ series n = getD (1 ∷ 2 ∷ 5 ∷ []) (n % 3) 0 * 10 ^ (n / 3)
 unfoldable pub start : ℕ → ℕ
 start r = cond (eqb r 0) 0 (series (r + 8))
 
--- the step of row r in band c: a row on, the next of the series; a band on, the one before, and 1 where there is none before (- stops at 0)
+-- how far apart the rungs of a row are in a band: a row on, the next of the series; a band on, the one before, and 1 where there is none before (- stops at 0)
 unfoldable pub stepOf : ℕ → ℕ → ℕ
 stepOf r c = series (r + 3 - c)
 
@@ -25,7 +25,7 @@ unfoldable pub rowTo : ℕ → ℕ → ℕ
 rowTo zero p = 0
 rowTo (suc n) p = cond (leb (start (suc n)) p) (suc n) (rowTo n p)
 
--- the row of p: a row ends just below the next, and row 18 is the last
+-- the row that p is in, of rows 0 to 18
 unfoldable pub rowOf : ℕ → ℕ
 rowOf p = rowTo 18 p
 

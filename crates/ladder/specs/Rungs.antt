@@ -5,7 +5,7 @@ use Prim.Native.Nat.{ℕ, _≤_}
 use Rattle.std.specs.declared.option.Option.{Option}
 use Rattle.std.specs.declared.option.Option.the-variants.{Some, None}
 
--- a set of prices, its rungs, as the test whether a number is one
+-- the rungs of a ladder, as the test whether a number is one
 abbrev pub Rungs : Type 0
 Rungs = ℕ → Bool
 
@@ -18,10 +18,10 @@ abbrev pub Nearest : (ℕ → ℕ → Type 0) → Rungs → ℕ → Option ℕ �
 Nearest ahead rungs p None = (k : ℕ) → ahead p k → In rungs k → ⊥
 Nearest ahead rungs p (Some q) = In rungs q × ahead p q × ((k : ℕ) → ahead p k → In rungs k → ahead q k)
 
--- the lowest rung at or above p, or none
+-- upward: the lowest rung that is not below p, or that there is none
 abbrev pub Lowest : Rungs → ℕ → Option ℕ → Type 0
 Lowest rungs p r = Nearest (λ a b. a ≤ b) rungs p r
 
--- the highest rung at or below p, or none
+-- downward: the highest rung that is not above p, or that there is none
 abbrev pub Highest : Rungs → ℕ → Option ℕ → Type 0
 Highest rungs p r = Nearest (λ a b. b ≤ a) rungs p r

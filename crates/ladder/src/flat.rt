@@ -11,7 +11,7 @@ use terms::Refusal;
 // The largest step of a flat ladder.
 const MAX_STEP: u64 = 1_000_000;
 
-/// The flat ladder of a step: every multiple of it that is a price.
+/// A flat ladder: rungs at equal distances, as far as prices go.
 #[derive(Clone, Copy)]
 pub struct Flat {
     step: u32,
@@ -20,7 +20,7 @@ pub struct Flat {
 }
 
 impl Flat {
-    /// The flat ladder of a step from 1 to 1,000,000.
+    /// Takes a step from 1 to 1,000,000.
     pub fn new(step: u64) -> Result<Flat, Refusal>
         ensures { λ r. ⌜ Admitted (within 1 1000000 step) r (λ f. f .step ≡ step) ⌝ }
     {

@@ -4,23 +4,23 @@ ghost use denote.Ref.{now};
 ghost use Rattle.terms.specs.Prices.{IsPrice};
 ghost use Rattle.ladder.specs.Rungs.{Rungs, In, Lowest, Highest};
 
-/// A ladder is a set of prices, its rungs. It answers three questions about any number.
+/// Some prices, called rungs, and where the nearest of them is from any number.
 pub trait Ladder {
-    // The set.
+    // Which numbers are rungs.
     ghost rungs: { Self → Rungs };
 
-    // Every rung is a price.
+    // None but prices are.
     ghost priced: { (s : Self) (p : ℕ) → In (rungs s) p → IsPrice p };
 
     /// Whether `p` is a rung.
     fn is_rung(&self, p: u32) -> bool
         ensures { λ r. ⌜ r ≡ rungs (now (self .entry)) p ⌝ };
 
-    /// The lowest rung at or above `p`.
+    /// The nearest rung upward from `p`, `p` included.
     fn at_or_above(&self, p: u32) -> Option<u32>
         ensures { λ r. ⌜ Lowest (rungs (now (self .entry))) p r ⌝ };
 
-    /// The highest rung at or below `p`.
+    /// The nearest rung downward from `p`, `p` included.
     fn at_or_below(&self, p: u32) -> Option<u32>
         ensures { λ r. ⌜ Highest (rungs (now (self .entry))) p r ⌝ };
 }

@@ -1,7 +1,7 @@
 ghost use mathlib.Core.Path.{_≡_};
 ghost use Rattle.terms.specs.Prices.{isPrice};
 
-/// The highest price, 100,000 euros. A price is a whole number of ten-thousandths of a euro.
+/// The highest price, 100,000 euros. Prices are counted in ten-thousandths of a euro.
 pub const MAX_PRICE: u32 = 1_000_000_000;
 
 /// Whether a number is a price.

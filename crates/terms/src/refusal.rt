@@ -4,7 +4,7 @@ ghost use Rattle.terms.specs.Refusals.{number-of};
 /// Why a request is refused.
 #[derive(Clone, Copy, PartialEq, Eq, Debug)]
 pub enum Refusal {
-    /// A value of a ladder or a limit is out of range.
+    /// A step, a band, a centre or a percentage lies outside its range.
     Parameter,
 }
 
