@@ -1,2 +1,4 @@
 pub mod Prices
+pub mod Dates
+pub mod Trades
 pub mod Refusals

@@ -4,8 +4,12 @@ ghost use Rattle.terms.specs.Refusals.{number-of};
 /// Why a request is refused.
 #[derive(Clone, Copy, PartialEq, Eq, Debug)]
 pub enum Refusal {
-    /// A step, a band, a centre or a percentage lies outside its range.
+    /// A value of a ladder, a limit or a founding sheet lies outside its range.
     Parameter,
+    /// A number is no date.
+    InvalidDate,
+    /// The date of an opening is not later than that of the one before.
+    NotLater,
 }
 
 impl Refusal {
@@ -15,6 +19,8 @@ impl Refusal {
     {
         match self {
             Refusal::Parameter => 2,
+            Refusal::InvalidDate => 3,
+            Refusal::NotLater => 11,
         }
     }
 }

@@ -1,0 +1,318 @@
+-- Every event keeps what is true of a sheet. Assumes nothing.
+use mathlib.Core.Path.{_≡_, refl, sym, ap, _∙_}
+use mathlib.Core.Logic.{_⊎_, inl, inr, ⊎-elim}
+use mathlib.Core.Bool.{Bool, true, false, cond, not, _&&_, _||_}
+use Prim.Native.Nat.{ℕ, _+_, _-_, _*_, _/_, _%_, _≤_, _<_}
+use native.Mathlib.Nat.{mul-le-mul-right, mul-le-mul-left, mul-add, add-mul}
+use native.Mathlib.Omega.{arith}
+use lib.Dec.{leb, eqb, ltb}
+use Rattle.std.specs.declared.option.Option.{Option}
+use Rattle.std.specs.declared.option.Option.the-variants.{Some, None}
+use Rattle.std.proofs.shelf.Tests.{cond-both, leb-false, lt-leb, eqb-false, and-parts, and-from, or-cases, or-left, or-right, leb-true, ltb-true, eqb-true, true≢false, false≢true}
+use Rattle.std.proofs.shelf.Ways.{tells}
+use Rattle.terms.specs.declared.date.Date.{Date}
+use Rattle.terms.specs.declared.trade.Trade.{Trade}
+use Rattle.terms.specs.Prices.{within, isPrice, IsPrice}
+use Rattle.terms.specs.Trades.{sharesOf, turnoverOf}
+use Rattle.sheet.specs.declared.float.Float.{Float}
+use Rattle.sheet.specs.declared.float.Float.the-variants.{AboveQuarter, AtMostQuarter, AtMostTenth}
+use Rattle.sheet.specs.declared.gate.Gate.{Gate}
+use Rattle.sheet.specs.declared.gate.Gate.the-variants.{One, Two, Three}
+use Rattle.sheet.specs.declared.thresholds.Terms.{Terms}
+use Rattle.sheet.specs.declared.sheet.Sheet.{Sheet}
+use Rattle.sheet.specs.declared.event.Event.{Event}
+use Rattle.sheet.specs.declared.event.Event.the-variants.{Opening, TimeEnd, IntermediateClose, Posting}
+use Rattle.sheet.specs.Thresholds.{eased, referenceIn, minimumIn, reached}
+use Rattle.sheet.specs.Sheets.{average, averaged, earned, gradeAfter, ended, started, closed, added, settled, nextIn, next}
+use Rattle.sheet.specs.Foundings.{first}
+use Rattle.sheet.specs.Sounds.{isChoice, fits, sums, widenedFrom, widened, limits, isSound, Due}
+use Rattle.sheet.proofs.Averages.{average-between}
+
+-- what the test says, as facts
+pub record Fit (terms : Terms) : Type 0 where
+  pub choice : isChoice (terms .choice) ≡ true
+  pub some : 1 ≤ terms .circulation
+  pub most : terms .circulation ≤ 1000000000
+
+pub record Sums (ends : Bool) (volume turnover recent reference : ℕ) : Type 0 where
+  pub running : ends ≡ false
+  pub cheapest : volume ≤ turnover
+  pub dearest : turnover ≤ 1000000000 * volume
+  pub part : recent ≤ volume
+  pub price : IsPrice reference
+
+pub record Sound (terms : Terms) (s : Sheet) : Type 0 where
+  pub fits : fits terms ≡ true
+  pub sums : Sums (reached terms (referenceIn (s .gate) terms) (s .volume)) (s .volume) (s .turnover) (s .recent) (s .reference)
+  pub limits : limits (s .gate) (s .limit) (s .intermediate) ≡ true
+
+fit : (terms : Terms) → fits terms ≡ true → Fit terms
+fit terms h = record { choice = grind (arith, tells); some = grind (arith, tells); most = grind (arith, tells) }
+
+sums-facts : (ends : Bool) (volume turnover recent reference : ℕ) → (not ends && within volume (1000000000 * volume) turnover && leb recent volume && isPrice reference) ≡ true → Sums ends volume turnover recent reference
+sums-facts true volume turnover recent reference h = absurd (false≢true h)
+sums-facts false volume turnover recent reference h =
+    record {
+      running = refl;
+      cheapest = grind (arith, tells);
+      dearest = grind (arith, tells);
+      part = grind (arith, tells);
+      price = (grind (arith, tells), grind (arith, tells));
+    }
+
+sums-tested : (ends : Bool) (volume turnover recent reference : ℕ) → Sums ends volume turnover recent reference → (not ends && within volume (1000000000 * volume) turnover && leb recent volume && isPrice reference) ≡ true
+sums-tested true volume turnover recent reference sums = absurd (true≢false (sums .running))
+sums-tested false volume turnover recent reference sums = grind (arith, tells)
+
+facts : (terms : Terms) (s : Sheet) → isSound terms s ≡ true → Sound terms s
+unfolding isSound
+facts terms s h =
+    let parts = and-parts (fits terms && sums terms s) (limits (s .gate) (s .limit) (s .intermediate)) h in
+    let left = and-parts (fits terms) (sums terms s) (parts .0) in
+    record {
+      fits = left .0;
+      sums = sums-facts (reached terms (referenceIn (s .gate) terms) (s .volume)) (s .volume) (s .turnover) (s .recent) (s .reference) (left .1);
+      limits = parts .1;
+    }
+
+tested : (terms : Terms) (s : Sheet) → Sound terms s → isSound terms s ≡ true
+unfolding isSound
+tested terms s sound =
+    let all = sums-tested (reached terms (referenceIn (s .gate) terms) (s .volume)) (s .volume) (s .turnover) (s .recent) (s .reference) (sound .sums) in
+    and-from (fits terms && sums terms s) (limits (s .gate) (s .limit) (s .intermediate)) (and-from (fits terms) (sums terms s) (sound .fits) all) (sound .limits)
+
+-- reference thresholds, whatever the gate
+pub record Threshold (t : ℕ) : Type 0 where
+  pub some : 1 ≤ t
+  pub most : t ≤ 3000
+
+eased-threshold : (float : Float) → Threshold (eased float 1000)
+eased-threshold AboveQuarter = record { some = omega arith; most = omega arith }
+eased-threshold AtMostQuarter = record { some = omega arith; most = omega arith }
+eased-threshold AtMostTenth = record { some = omega arith; most = omega arith }
+
+threshold : (terms : Terms) (gate : Gate) → Fit terms → Threshold (referenceIn gate terms)
+threshold terms One fit = eased-threshold (terms .float)
+threshold terms Two fit =
+    let choice = fit .choice in
+    record { some = grind (arith, tells); most = grind (arith, tells) }
+threshold terms Three fit = record { some = omega arith; most = omega arith }
+
+-- shares that have not reached the threshold are few
+few : (terms : Terms) (gate : Gate) (shares : ℕ) → Fit terms → reached terms (referenceIn gate terms) shares ≡ false → shares < 30000000
+few terms gate shares fit not-reached =
+    let t = threshold terms gate fit in
+    let under = leb-false (referenceIn gate terms * terms .circulation) (100000 * shares) not-reached in
+    omega (arith, mul-le-mul-right (terms .circulation) (t .most), fit .most)
+
+-- and none reach it
+none : (terms : Terms) (gate : Gate) → Fit terms → reached terms (referenceIn gate terms) 0 ≡ false
+none terms gate fit =
+    let t = threshold terms gate fit in
+    lt-leb (referenceIn gate terms * terms .circulation) (100000 * 0) (omega (arith, mul-le-mul-right (terms .circulation) (t .some), fit .some))
+
+-- a widened limit: how wide at most, and as wide or 4 wider in the next intermediate period
+from-most : (first limit intermediate : ℕ) → first ≤ 8 → intermediate ≤ 6 → widenedFrom first limit intermediate ≡ true → limit ≤ 28
+from-most first limit intermediate low last h =
+    let parts = and-parts (leb first limit && eqb ((limit - first) % 4) 0) (ltb ((limit - first) / 4) intermediate) h in
+    let left = and-parts (leb first limit) (eqb ((limit - first) % 4) 0) (parts .0) in
+    let a = leb-true first limit (left .0) in
+    let b = eqb-true ((limit - first) % 4) 0 (left .1) in
+    let c = ltb-true ((limit - first) / 4) intermediate (parts .1) in
+    omega arith
+
+widened-most : (limit intermediate : ℕ) → (within 1 6 intermediate && widened limit intermediate) ≡ true → limit ≤ 28
+widened-most limit intermediate h =
+    let parts = and-parts (within 1 6 intermediate) (widened limit intermediate) h in
+    let last : intermediate ≤ 6 = leb-true intermediate 6 (and-parts (leb 1 intermediate) (leb intermediate 6) (parts .0) .1) in
+    ⊎-elim
+    (λ e.
+    ⊎-elim
+    (from-most 8 limit intermediate (omega arith) last)
+    (from-most 6 limit intermediate (omega arith) last)
+    (or-cases (widenedFrom 8 limit intermediate) (widenedFrom 6 limit intermediate) e))
+    (from-most 4 limit intermediate (omega arith) last)
+    (or-cases (widenedFrom 8 limit intermediate || widenedFrom 6 limit intermediate) (widenedFrom 4 limit intermediate) (parts .1))
+
+limit-most : (gate : Gate) (limit intermediate : ℕ) → limits gate limit intermediate ≡ true → limit ≤ 28
+limit-most One limit intermediate h = widened-most limit intermediate h
+limit-most Two limit intermediate h = widened-most limit intermediate h
+limit-most Three limit intermediate h =
+    let is = eqb-true limit 8 (and-parts (eqb intermediate 1) (eqb limit 8) h .1) in
+    omega arith
+
+from-wider : (first limit intermediate wider : ℕ) → (wider ≡ 0) ⊎ (wider ≡ 4) → widenedFrom first limit intermediate ≡ true → widenedFrom first (limit + wider) (intermediate + 1) ≡ true
+from-wider first limit intermediate wider by h = grind (arith, tells)
+
+-- what follows from each of three tests, of the next three
+any-of-three : (a b c a' b' c' : Bool) → (a ≡ true → a' ≡ true) → (b ≡ true → b' ≡ true) → (c ≡ true → c' ≡ true) → (a || b || c) ≡ true → (a' || b' || c') ≡ true
+any-of-three a b c a' b' c' on-a on-b on-c h =
+    ⊎-elim
+    (λ e. or-left (a' || b') c' (⊎-elim (λ x. or-left a' b' (on-a x)) (λ y. or-right a' b' (on-b y)) (or-cases a b e)))
+    (λ z. or-right (a' || b') c' (on-c z))
+    (or-cases (a || b) c h)
+
+-- a close in Gate 1 or 2
+closed-limits : (limit intermediate wider : ℕ) → (within 1 6 intermediate && widened limit intermediate) ≡ true → intermediate < 6 → (wider ≡ 0) ⊎ (wider ≡ 4) → (within 1 6 (intermediate + 1) && widened (limit + wider) (intermediate + 1)) ≡ true
+closed-limits limit intermediate wider h due by =
+    let next = intermediate + 1 in
+    let inside : within 1 6 next ≡ true = grind (arith, tells) in
+    and-from (within 1 6 next) (widened (limit + wider) next) inside
+    (any-of-three (widenedFrom 8 limit intermediate) (widenedFrom 6 limit intermediate) (widenedFrom 4 limit intermediate) (widenedFrom 8 (limit + wider) next) (widenedFrom 6 (limit + wider) next) (widenedFrom 4 (limit + wider) next)
+    (from-wider 8 limit intermediate wider by) (from-wider 6 limit intermediate wider by) (from-wider 4 limit intermediate wider by)
+    (and-parts (within 1 6 intermediate) (widened limit intermediate) h .1))
+
+-- what the code asks of a sheet, so that its numbers fit
+pub record Bounds (s : Sheet) : Type 0 where
+  pub volume : s .volume < 30000000
+  pub recent : s .recent ≤ s .volume
+  pub turnover : s .turnover ≤ 1000000000 * s .volume
+  pub limit : s .limit ≤ 28
+
+pub bounds : (terms : Terms) (s : Sheet) → isSound terms s ≡ true → Bounds s
+bounds terms s h =
+    let sound = facts terms s h in
+    let sums = sound .sums in
+    record {
+      volume = few terms (s .gate) (s .volume) (fit terms (sound .fits)) (sums .running);
+      recent = sums .part;
+      turnover = sums .dearest;
+      limit = limit-most (s .gate) (s .limit) (s .intermediate) (sound .limits);
+    }
+
+averaged-price : (s : Sheet) → IsPrice (s .reference) → s .volume ≤ s .turnover → s .turnover ≤ 1000000000 * s .volume → IsPrice (averaged s)
+averaged-price s price cheap dear =
+    cond-both (eqb (s .volume) 0) (s .reference) (average (s .turnover) (s .volume)) (λ n. IsPrice n)
+    (λ e. price)
+    (λ e.
+    let some = eqb-false (s .volume) 0 e in
+    let b = average-between 1 1000000000 (s .turnover) (s .volume) (omega arith) (omega arith) dear in
+    (b .least, b .most))
+
+-- where a period begins
+abbrev Fresh : Gate × ℕ → Type 0
+Fresh grade = limits (grade .0) (grade .1) 1 ≡ true
+
+earned-fresh : (terms : Terms) (volume : ℕ) → Fresh (earned terms volume)
+earned-fresh terms volume =
+    cond-both (reached terms 1200 volume) (Two, 4) (cond (reached terms 1000 volume) (Two, 6) (cond (reached terms 800 volume) (Two, 8) (One, 8))) Fresh
+    (λ e. refl)
+    (λ e.
+    cond-both (reached terms 1000 volume) (Two, 6) (cond (reached terms 800 volume) (Two, 8) (One, 8)) Fresh
+    (λ e. refl)
+    (λ e. cond-both (reached terms 800 volume) (Two, 8) (One, 8) Fresh (λ e. refl) (λ e. refl)))
+
+grade-fresh : (gate : Gate) (terms : Terms) (volume : ℕ) → Fresh (gradeAfter gate terms volume)
+grade-fresh One terms volume = earned-fresh terms volume
+grade-fresh Two terms volume = earned-fresh terms volume
+grade-fresh Three terms volume = refl
+
+ended-sound : (terms : Terms) (s : Sheet) (start : Option Date) → fits terms ≡ true → IsPrice (s .reference) → s .volume ≤ s .turnover → s .turnover ≤ 1000000000 * s .volume → Sound terms (ended terms s start)
+ended-sound terms s start fits price cheap dear =
+    record {
+      fits = fits;
+      sums = record {
+        running = none terms (gradeAfter (s .gate) terms (s .volume) .0) (fit terms fits);
+        cheapest = omega arith;
+        dearest = omega arith;
+        part = omega arith;
+        price = averaged-price s price cheap dear;
+      };
+      limits = grade-fresh (s .gate) terms (s .volume);
+    }
+
+-- a trade added: each share cost a price
+record Traded (volume turnover : ℕ) : Type 0 where
+  cheapest : volume ≤ turnover
+  dearest : turnover ≤ 1000000000 * volume
+
+traded : (s : Sheet) (trade : Option Trade) → s .volume ≤ s .turnover → s .turnover ≤ 1000000000 * s .volume → Traded (s .volume + sharesOf trade) (s .turnover + turnoverOf trade)
+traded s None cheap dear = record { cheapest = omega arith; dearest = omega arith }
+traded s (Some trade) cheap dear =
+    let one = mul-le-mul-right (trade .shares) (trade .low) in
+    let most = mul-le-mul-right (trade .shares) (trade .high) in
+    record { cheapest = omega arith; dearest = omega arith }
+
+posted-sound : (terms : Terms) (s : Sheet) (trade : Option Trade) → Sound terms s → Sound terms (settled terms (added s trade))
+posted-sound terms s trade sound =
+    let sums = sound .sums in
+    let all = traded s trade (sums .cheapest) (sums .dearest) in
+    cond-both (reached terms (referenceIn (s .gate) terms) (s .volume + sharesOf trade)) (ended terms (added s trade) None) (added s trade) (Sound terms)
+    (λ e. ended-sound terms (added s trade) None (sound .fits) (sums .price) (all .cheapest) (all .dearest))
+    (λ e.
+    record {
+      fits = sound .fits;
+      sums = record {
+        running = e;
+        cheapest = all .cheapest;
+        dearest = all .dearest;
+        part = omega arith;
+        price = sums .price;
+      };
+      limits = sound .limits;
+    })
+
+closed-sound : (terms : Terms) (s : Sheet) → Sound terms s → s .intermediate < 6 → ((limit intermediate : ℕ) → limits (s .gate) limit intermediate ≡ (within 1 6 intermediate && widened limit intermediate)) → Sound terms (closed terms s)
+closed-sound terms s sound due shape =
+    let sums = sound .sums in
+    let wider = cond (reached terms (minimumIn (s .gate) terms) (s .recent)) 0 4 in
+    let by = cond-both (reached terms (minimumIn (s .gate) terms) (s .recent)) 0 4 (λ (n : ℕ). (n ≡ 0) ⊎ (n ≡ 4)) (λ e. inl refl) (λ e. inr refl) in
+    record {
+      fits = sound .fits;
+      sums = record {
+        running = sums .running;
+        cheapest = sums .cheapest;
+        dearest = sums .dearest;
+        part = omega arith;
+        price = sums .price;
+      };
+      limits = shape (s .limit + wider) (s .intermediate + 1) ∙ closed-limits (s .limit) (s .intermediate) wider (sym (shape (s .limit) (s .intermediate)) ∙ sound .limits) due by;
+    }
+
+close-sound : (gate : Gate) (terms : Terms) (s : Sheet) → s .gate ≡ gate → Sound terms s → s .intermediate < 6 → Sound terms (nextIn gate IntermediateClose terms s)
+close-sound One terms s is sound due = closed-sound terms s sound due (λ limit intermediate. ap (λ g. limits g limit intermediate) is)
+close-sound Two terms s is sound due = closed-sound terms s sound due (λ limit intermediate. ap (λ g. limits g limit intermediate) is)
+close-sound Three terms s is sound due = sound
+
+next-keeps : (terms : Terms) (s : Sheet) (event : Event) → Sound terms s → Due s event → Sound terms (next terms s event)
+next-keeps terms s (Opening date) sound due =
+    record {
+      fits = sound .fits;
+      sums = sound .sums;
+      limits = sym (ap (λ n. limits (s .gate) (s .limit) n) due) ∙ sound .limits;
+    }
+next-keeps terms s (TimeEnd date) sound due =
+    let sums = sound .sums in
+    ended-sound terms s (Some date) (sound .fits) (sums .price) (sums .cheapest) (sums .dearest)
+next-keeps terms s IntermediateClose sound due = close-sound (s .gate) terms s refl sound due
+next-keeps terms s (Posting trade) sound due = posted-sound terms s trade sound
+
+-- every event leaves a sound sheet sound
+pub next-sound : (terms : Terms) (s : Sheet) (event : Event) → isSound terms s ≡ true → Due s event → isSound terms (next terms s event) ≡ true
+next-sound terms s event sound due = tested terms (next terms s event) (next-keeps terms s event (facts terms s sound) due)
+
+eight : (gate : Gate) → limits gate 8 1 ≡ true
+eight One = refl
+eight Two = refl
+eight Three = refl
+
+-- a share that is newly listed
+pub first-sound : (terms : Terms) (gate : Gate) (reference : ℕ) → isChoice (terms .choice) ≡ true → within 1 1000000000 (terms .circulation) ≡ true → within 1 100 (terms .«cap») ≡ true → within 1 4294967295 (terms .first) ≡ true → isPrice reference ≡ true → isSound terms (first gate reference) ≡ true
+first-sound terms gate reference choice circulation widest number price =
+    let fits-all : fits terms ≡ true =
+    and-from (isChoice (terms .choice) && within 1 1000000000 (terms .circulation) && within 1 100 (terms .«cap»)) (within 1 4294967295 (terms .first))
+    (and-from (isChoice (terms .choice) && within 1 1000000000 (terms .circulation)) (within 1 100 (terms .«cap»)) (and-from (isChoice (terms .choice)) (within 1 1000000000 (terms .circulation)) choice circulation) widest)
+    number in
+    let ends = and-parts (leb 1 reference) (leb reference 1000000000) price in
+    tested terms (first gate reference)
+    (record {
+      fits = fits-all;
+      sums = record {
+        running = none terms gate (fit terms fits-all);
+        cheapest = omega arith;
+        dearest = omega arith;
+        part = omega arith;
+        price = (leb-true 1 reference (ends .0), leb-true reference 1000000000 (ends .1));
+      };
+      limits = eight gate;
+    })

@@ -1,0 +1,5 @@
+pub mod Averages
+pub mod Keeping
+pub mod Closing
+pub mod Opening
+pub mod Dating

@@ -1,0 +1,5 @@
+pub mod Gates
+pub mod Thresholds
+pub mod Sheets
+pub mod Sounds
+pub mod Foundings

@@ -1,0 +1,130 @@
+-- The period sheet: what becomes of it. Assumes nothing.
+use mathlib.Core.Bool.{Bool, cond}
+use Prim.Native.Nat.{ℕ, zero, suc, _+_, _-_, _*_, _/_}
+use lib.Dec.{eqb, leb}
+use Rattle.std.specs.declared.option.Option.{Option}
+use Rattle.std.specs.declared.option.Option.the-variants.{Some, None}
+use Rattle.terms.specs.declared.date.Date.{Date}
+use Rattle.terms.specs.declared.trade.Trade.{Trade}
+use Rattle.terms.specs.Dates.{wholeMonths}
+use Rattle.terms.specs.Trades.{sharesOf, turnoverOf}
+use Rattle.sheet.specs.declared.gate.Gate.{Gate}
+use Rattle.sheet.specs.declared.gate.Gate.the-variants.{One, Two, Three}
+use Rattle.sheet.specs.declared.thresholds.Terms.{Terms}
+use Rattle.sheet.specs.declared.sheet.Sheet.{Sheet}
+use Rattle.sheet.specs.declared.event.Event.{Event}
+use Rattle.sheet.specs.declared.event.Event.the-variants.{Opening, TimeEnd, IntermediateClose, Posting}
+use Rattle.sheet.specs.Gates.{lasts}
+use Rattle.sheet.specs.Thresholds.{referenceIn, minimumIn, reached}
+
+-- turnover ÷ shares to the nearest whole number, halves up
+abbrev pub average : ℕ → ℕ → ℕ
+average turnover shares = (2 * turnover + shares) / (2 * shares)
+
+-- the Reference Price after a period: the average price of its shares, or the old one where there were none
+abbrev pub averaged : Sheet → ℕ
+averaged s = cond (eqb (s .volume) 0) (s .reference) (average (s .turnover) (s .volume))
+
+-- the gate and Limit 1 that the shares traded in a period lead to
+abbrev pub earned : Terms → ℕ → Gate × ℕ
+earned terms volume =
+    cond (reached terms 1200 volume) (Two, 4) (cond (reached terms 1000 volume) (Two, 6) (cond (reached terms 800 volume) (Two, 8) (One, 8)))
+
+-- Gate 3 stays
+abbrev pub gradeAfter : Gate → Terms → ℕ → Gate × ℕ
+gradeAfter One terms volume = earned terms volume
+gradeAfter Two terms volume = earned terms volume
+gradeAfter Three terms volume = (Three, 8)
+
+-- a period ends; the next one has started or not
+abbrev pub ended : Terms → Sheet → Option Date → Sheet
+ended terms s start =
+    record {
+      gate = gradeAfter (s .gate) terms (s .volume) .0;
+      limit = gradeAfter (s .gate) terms (s .volume) .1;
+      reference = averaged s;
+      start = start;
+      volume = 0;
+      turnover = 0;
+      intermediate = 1;
+      recent = 0;
+    }
+
+-- a period starts where none runs
+abbrev pub started : Sheet → Date → Sheet
+started s date =
+    record {
+      gate = s .gate;
+      limit = s .limit;
+      reference = s .reference;
+      start = Some date;
+      volume = s .volume;
+      turnover = s .turnover;
+      intermediate = 1;
+      recent = s .recent;
+    }
+
+-- an intermediate period closes: the limit is 4 wider if too little was traded in it, and the next one begins
+abbrev pub closed : Terms → Sheet → Sheet
+closed terms s =
+    record {
+      gate = s .gate;
+      limit = s .limit + cond (reached terms (minimumIn (s .gate) terms) (s .recent)) 0 4;
+      reference = s .reference;
+      start = s .start;
+      volume = s .volume;
+      turnover = s .turnover;
+      intermediate = s .intermediate + 1;
+      recent = 0;
+    }
+
+-- a trade is added to the sums
+abbrev pub added : Sheet → Option Trade → Sheet
+added s trade =
+    record {
+      gate = s .gate;
+      limit = s .limit;
+      reference = s .reference;
+      start = s .start;
+      volume = s .volume + sharesOf trade;
+      turnover = s .turnover + turnoverOf trade;
+      intermediate = s .intermediate;
+      recent = s .recent + sharesOf trade;
+    }
+
+-- the period ends once its shares reach the reference threshold
+abbrev pub settled : Terms → Sheet → Sheet
+settled terms s = cond (reached terms (referenceIn (s .gate) terms) (s .volume)) (ended terms s None) s
+
+-- gate and event decide
+abbrev pub nextIn : Gate → Event → Terms → Sheet → Sheet
+nextIn gate (Opening date) terms s = started s date
+nextIn gate (TimeEnd date) terms s = ended terms s (Some date)
+nextIn One IntermediateClose terms s = closed terms s
+nextIn Two IntermediateClose terms s = closed terms s
+nextIn Three IntermediateClose terms s = s
+nextIn gate (Posting trade) terms s = settled terms (added s trade)
+
+abbrev pub next : Terms → Sheet → Event → Sheet
+next terms s event = nextIn (s .gate) event terms s
+
+-- n intermediate periods close one after the other
+abbrev pub closes : ℕ → Terms → Sheet → Sheet
+closes zero terms s = s
+closes (suc n) terms s = closes n terms (next terms s IntermediateClose)
+
+-- a call opens m whole months after the start: the period has lasted its time, or intermediate periods close up to the one after m ÷ 2
+abbrev pub openedAfter : ℕ → Terms → Sheet → Date → Sheet
+openedAfter m terms s date = cond (leb (lasts (s .gate)) m) (next terms s (TimeEnd date)) (closes (m / 2 + 1 - s .intermediate) terms s)
+
+abbrev pub openedFrom : Option Date → Terms → Sheet → Date → Sheet
+openedFrom None terms s date = next terms s (Opening date)
+openedFrom (Some start) terms s date = openedAfter (wholeMonths (start .number) (date .number)) terms s date
+
+-- what an opening on a date does
+abbrev pub opened : Terms → Sheet → Date → Sheet
+opened terms s date = openedFrom (s .start) terms s date
+
+-- what the posting of a call's outcome does
+abbrev pub posted : Terms → Sheet → Option Trade → Sheet
+posted terms s trade = next terms s (Posting trade)
