@@ -1,8 +1,12 @@
--- The average of prices lies between them. Assumes nothing.
+-- The average of prices lies between them, and is the nearest whole number. Assumes nothing.
+use mathlib.Core.Path.{_≡_}
+use mathlib.Core.Logic.{⊎-elim}
 use Prim.Native.Nat.{ℕ, _+_, _*_, _/_, _≤_, _<_}
-use native.Mathlib.Nat.{le-div-iff-mul-le, div-lt-iff-lt-mul, add-mul, mul-left-comm}
+use native.Mathlib.Nat.{le-div-iff-mul-le, div-lt-iff-lt-mul, add-mul, mul-left-comm, div-add-mod', mod-lt, mul-le-mul-right}
 use native.Mathlib.Omega.{arith}
+use Rattle.std.proofs.shelf.Tests.{cases-lt}
 use Rattle.sheet.specs.Sheets.{average}
+use Rattle.sheet.specs.Laws.{Nearest-average}
 
 pub record Between (low high n : ℕ) : Type 0 where
   pub least : low ≤ n
@@ -15,3 +19,31 @@ average-between low high turnover shares some least most =
     let at-high = mul-left-comm high 2 shares in
     let below : average turnover shares < high + 1 = div-lt-iff-lt-mul twice .1 (omega (arith, add-mul high 1 (2 * shares))) in
     record { least = le-div-iff-mul-le twice .1 (omega arith); most = omega arith }
+
+-- and no whole number is nearer
+pub nearest-average : Nearest-average
+nearest-average turnover shares k some =
+    let twice : 0 < 2 * shares = omega arith in
+    let whole = div-add-mod' (2 * turnover + shares) (2 * shares) in
+    let rest = mod-lt (2 * turnover + shares) twice in
+    let at = mul-left-comm (average turnover shares) 2 shares in
+    let low : 2 * (average turnover shares * shares) ≤ 2 * turnover + shares = omega arith in
+    let high : 2 * turnover < 2 * (average turnover shares * shares) + shares = omega arith in
+    ⊎-elim
+    (λ (lt : k < average turnover shares).
+    let under : k + 1 ≤ average turnover shares = omega arith in
+    let apart = mul-le-mul-right shares under in
+    let sum = add-mul k 1 shares in
+    (omega arith, λ e. omega arith))
+    (λ (ge : average turnover shares ≤ k).
+    ⊎-elim
+    (λ (lt : average turnover shares < k).
+    let over : average turnover shares + 1 ≤ k = omega arith in
+    let apart = mul-le-mul-right shares over in
+    let sum = add-mul (average turnover shares) 1 shares in
+    (omega arith, λ e. absurd (omega arith)))
+    (λ (le : k ≤ average turnover shares).
+    let same : k ≡ average turnover shares = omega arith in
+    (rw same (omega arith), λ e. le))
+    (cases-lt (average turnover shares) k))
+    (cases-lt k (average turnover shares))

@@ -25,6 +25,7 @@ use Rattle.sheet.specs.declared.event.Event.the-variants.{Opening, TimeEnd, In
 use Rattle.sheet.specs.Thresholds.{eased, referenceIn, minimumIn, reached}
 use Rattle.sheet.specs.Sheets.{average, averaged, earned, gradeAfter, ended, started, closed, added, settled, nextIn, next}
 use Rattle.sheet.specs.Foundings.{first}
+use Rattle.sheet.specs.Laws.{At-most-28}
 use Rattle.sheet.specs.Sounds.{isChoice, fits, sums, widenedFrom, widened, limits, isSound, Due}
 use Rattle.sheet.proofs.Averages.{average-between}
 
@@ -316,3 +317,40 @@ first-sound terms gate reference choice circulation widest number price =
       };
       limits = eight gate;
     })
+
+-- outside Gate 3 no shares do not reach the minimum
+eased-minimum : (float : Float) → 1 ≤ eased float 100
+eased-minimum AboveQuarter = omega arith
+eased-minimum AtMostQuarter = omega arith
+eased-minimum AtMostTenth = omega arith
+
+minimum : (gate : Gate) (terms : Terms) → (gate ≡ Three → ⊥) → 1 ≤ minimumIn gate terms
+minimum One terms other = eased-minimum (terms .float)
+minimum Two terms other = omega arith
+minimum Three terms other = absurd (other refl)
+
+pub no-minimum : (terms : Terms) (gate : Gate) → fits terms ≡ true → (gate ≡ Three → ⊥) → reached terms (minimumIn gate terms) 0 ≡ false
+no-minimum terms gate fits-all other =
+    let some = minimum gate terms other in
+    lt-leb (minimumIn gate terms * terms .circulation) (100000 * 0) (omega (arith, mul-le-mul-right (terms .circulation) some, fit terms fits-all .some))
+
+-- Gate 3 is in the first intermediate period, at 8 percent
+record Third (percent at : ℕ) : Type 0 where
+  limit : percent ≡ 8
+  intermediate : at ≡ 1
+
+third : (gate : Gate) (limit intermediate : ℕ) → gate ≡ Three → limits gate limit intermediate ≡ true → Third limit intermediate
+third gate limit intermediate is h =
+    let parts = and-parts (eqb intermediate 1) (eqb limit 8) (sym (ap (λ g. limits g limit intermediate) is) ∙ h) in
+    record { limit = eqb-true limit 8 (parts .1); intermediate = eqb-true intermediate 1 (parts .0) }
+
+pub first-only : (terms : Terms) (s : Sheet) → isSound terms s ≡ true → s .gate ≡ Three → s .intermediate ≡ 1
+first-only terms s sound is = third (s .gate) (s .limit) (s .intermediate) is (facts terms s sound .limits) .intermediate
+
+pub sound-fits : (terms : Terms) (s : Sheet) → isSound terms s ≡ true → fits terms ≡ true
+sound-fits terms s sound = facts terms s sound .fits
+
+pub at-most-28 : At-most-28
+at-most-28 terms s sound =
+    let known = facts terms s sound .limits in
+    (limit-most (s .gate) (s .limit) (s .intermediate) known, λ is. third (s .gate) (s .limit) (s .intermediate) is known .limit)

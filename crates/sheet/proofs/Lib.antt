@@ -3,3 +3,7 @@ pub mod Keeping
 pub mod Closing
 pub mod Opening
 pub mod Dating
+pub mod Summing
+pub mod Widening
+pub mod Stepping
+pub mod Deciding

@@ -1,4 +1,5 @@
 pub mod Prices
 pub mod Dates
+pub mod Calendar
 pub mod Trades
 pub mod Refusals

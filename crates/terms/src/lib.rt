@@ -1,5 +1,6 @@
 //! The vocabulary that every layer shares: prices, dates, trades, and refusals with their numbers.
 mod date;
+mod laws;
 mod price;
 mod refusal;
 mod trade;
@@ -8,6 +9,7 @@ pub use date::Date;
 pub use date::DateDebug;
 pub use date::DateEq;
 pub use date::DatePartialEq;
+pub use laws::date_laws;
 pub use price::MAX_PRICE;
 pub use price::is_price;
 pub use refusal::Refusal;

@@ -1,0 +1,64 @@
+-- Which terms an opening goes by. Assumes nothing.
+use mathlib.Core.Path.{_≡_, refl, sym, ap, _∙_}
+use mathlib.Core.Bool.{cond}
+use Prim.Native.Nat.{ℕ, zero, suc, _+_, _-_, _/_}
+use lib.Dec.{leb}
+use Rattle.std.specs.declared.option.Option.{Option}
+use Rattle.std.specs.declared.option.Option.the-variants.{Some, None}
+use Rattle.terms.specs.declared.date.Date.{Date}
+use Rattle.terms.specs.Dates.{wholeMonths}
+use Rattle.sheet.specs.declared.float.Float.{Float}
+use Rattle.sheet.specs.declared.gate.Gate.{Gate}
+use Rattle.sheet.specs.declared.gate.Gate.the-variants.{One, Two, Three}
+use Rattle.sheet.specs.declared.thresholds.Terms.{Terms}
+use Rattle.sheet.specs.declared.sheet.Sheet.{Sheet}
+use Rattle.sheet.specs.declared.event.Event.{Event}
+use Rattle.sheet.specs.declared.event.Event.the-variants.{Opening, TimeEnd, IntermediateClose, Posting}
+use Rattle.sheet.specs.Gates.{lasts}
+use Rattle.sheet.specs.Thresholds.{minimumIn, reached}
+use Rattle.sheet.specs.Sheets.{averaged, gradeAfter, ended, closed, nextIn, next, closes, openedFrom, opened}
+use Rattle.sheet.specs.Laws.{Sheet-and-date}
+
+-- the same terms with another cap and first number
+abbrev with : Terms → ℕ → ℕ → Terms
+with terms widest number = record { float = terms .float; choice = terms .choice; circulation = terms .circulation; «cap» = widest; first = number }
+
+minimum-with : (gate : Gate) (terms : Terms) (widest number : ℕ) → minimumIn gate (with terms widest number) ≡ minimumIn gate terms
+minimum-with One terms widest number = refl
+minimum-with Two terms widest number = refl
+minimum-with Three terms widest number = refl
+
+grade-with : (gate : Gate) (terms : Terms) (widest number volume : ℕ) → gradeAfter gate (with terms widest number) volume ≡ gradeAfter gate terms volume
+grade-with One terms widest number volume = refl
+grade-with Two terms widest number volume = refl
+grade-with Three terms widest number volume = refl
+
+closed-with : (terms : Terms) (widest number : ℕ) (s : Sheet) → closed (with terms widest number) s ≡ closed terms s
+closed-with terms widest number s =
+    ap (λ (t : ℕ). record { gate = s .gate; limit = s .limit + cond (reached terms t (s .recent)) 0 4; reference = s .reference; start = s .start; volume = s .volume; turnover = s .turnover; intermediate = s .intermediate + 1; recent = 0 })
+    (minimum-with (s .gate) terms widest number)
+
+close-with : (gate : Gate) (terms : Terms) (widest number : ℕ) (s : Sheet) → nextIn gate IntermediateClose (with terms widest number) s ≡ nextIn gate IntermediateClose terms s
+close-with One terms widest number s = closed-with terms widest number s
+close-with Two terms widest number s = closed-with terms widest number s
+close-with Three terms widest number s = refl
+
+closes-with : (n : ℕ) (terms : Terms) (widest number : ℕ) (s : Sheet) → closes n (with terms widest number) s ≡ closes n terms s
+closes-with zero terms widest number s = refl
+closes-with (suc n) terms widest number s =
+    closes-with n terms widest number (next (with terms widest number) s IntermediateClose) ∙ ap (closes n terms) (close-with (s .gate) terms widest number s)
+
+ended-with : (terms : Terms) (widest number : ℕ) (s : Sheet) (start : Option Date) → ended (with terms widest number) s start ≡ ended terms s start
+ended-with terms widest number s start =
+    ap (λ (grade : Gate × ℕ). record { gate = grade .0; limit = grade .1; reference = averaged s; start = start; volume = 0; turnover = 0; intermediate = 1; recent = 0 })
+    (grade-with (s .gate) terms widest number (s .volume))
+
+opened-with : (start : Option Date) (terms : Terms) (widest number : ℕ) (s : Sheet) (date : Date) → openedFrom start (with terms widest number) s date ≡ openedFrom start terms s date
+opened-with None terms widest number s date = refl
+opened-with (Some start) terms widest number s date =
+    let m = wholeMonths (start .number) (date .number) in
+    λ i. cond (leb (lasts (s .gate)) m) (ended-with terms widest number s (Some date) i) (closes-with (m / 2 + 1 - s .intermediate) terms widest number s i)
+
+pub sheet-and-date : Sheet-and-date
+sheet-and-date a b s date float choice circulation =
+    sym (opened-with (s .start) a (b .«cap») (b .first) s date) ∙ (λ i. opened (record { float = float i; choice = choice i; circulation = circulation i; «cap» = b .«cap»; first = b .first }) s date)
