@@ -256,8 +256,8 @@ posted-sound terms s trade sound =
 closed-sound : (terms : Terms) (s : Sheet) → Sound terms s → s .intermediate < 6 → ((limit intermediate : ℕ) → limits (s .gate) limit intermediate ≡ (within 1 6 intermediate && widened limit intermediate)) → Sound terms (closed terms s)
 closed-sound terms s sound due shape =
     let sums = sound .sums in
-    let wider = cond (reached terms (minimumIn (s .gate) terms) (s .recent)) 0 4 in
-    let by = cond-both (reached terms (minimumIn (s .gate) terms) (s .recent)) 0 4 (λ (n : ℕ). (n ≡ 0) ⊎ (n ≡ 4)) (λ e. inl refl) (λ e. inr refl) in
+    let wider = cond {A = ℕ} (reached terms (minimumIn (s .gate) terms) (s .recent)) 0 4 in
+    let by = cond-both {A = ℕ} (reached terms (minimumIn (s .gate) terms) (s .recent)) 0 4 (λ (n : ℕ). (n ≡ 0) ⊎ (n ≡ 4)) (λ e. inl refl) (λ e. inr refl) in
     record {
       fits = sound .fits;
       sums = record {
@@ -354,3 +354,6 @@ pub at-most-28 : At-most-28
 at-most-28 terms s sound =
     let known = facts terms s sound .limits in
     (limit-most (s .gate) (s .limit) (s .intermediate) known, λ is. third (s .gate) (s .limit) (s .intermediate) is known .limit)
+
+pub reference-price : (terms : Terms) (s : Sheet) → isSound terms s ≡ true → isPrice (s .reference) ≡ true
+reference-price terms s sound = let sums = facts terms s sound .sums in grind (arith, tells)

@@ -1,7 +1,8 @@
 ghost use mathlib.Core.Path.{_≡_};
 ghost use mathlib.Core.Bool.{cond, true};
-ghost use Prim.Native.Nat.{min};
+ghost use Prim.Native.Nat.{_≤_, min};
 ghost use Rattle.std.specs.declared.option.Option.the-variants.{Some, None};
+ghost use Rattle.terms.specs.Prices.{isPrice};
 ghost use Rattle.terms.specs.Refusals.{Admitted, Passed};
 ghost use Rattle.terms.specs.declared.refusal.Refusal.the-variants.{NotLater};
 ghost use Rattle.sheet.specs.Foundings.{founded, inRange, termsOf};
@@ -91,7 +92,9 @@ impl Listing {
 
     /// The period sheet.
     pub fn sheet(&self) -> Sheet
-        ensures { λ r. ⌜ r ≡ now (self .entry) .sheet ⌝ }
+        ensures value { λ r. ⌜ r ≡ now (self .entry) .sheet ⌝ }
+        ensures sound { λ r. ⌜ isSound (now (self .entry) .terms) r ≡ true ⌝ }
+        ensures current { λ r. ⌜ isCurrent r (now (self .entry) .last) ≡ true ⌝ }
     {
         self.sheet
     }
@@ -103,11 +106,28 @@ impl Listing {
         self.last
     }
 
+    /// The Reference Price.
+    pub fn reference(&self) -> u32
+        ensures value { λ r. ⌜ r ≡ now (self .entry) .sheet .reference ⌝ }
+        ensures price { λ r. ⌜ isPrice r ≡ true ⌝ }
+    {
+        self.sheet.reference
+    }
+
+    /// Limit 1 in percent.
+    pub fn limit_1(&self) -> u32
+        ensures value { λ r. ⌜ r ≡ now (self .entry) .sheet .limit ⌝ }
+        ensures most { λ r. ⌜ r ≤ 28 ⌝ }
+    {
+        self.sheet.limit
+    }
+
     /// Limit 2 in percent: Limit 1, unless the cap is narrower.
     pub fn limit_2(&self) -> u32
-        ensures { λ r. ⌜ r ≡ min (now (self .entry) .sheet .limit) (now (self .entry) .terms .«cap») ⌝ }
+        ensures value { λ r. ⌜ r ≡ min (now (self .entry) .sheet .limit) (now (self .entry) .terms .«cap») ⌝ }
+        ensures most { λ r. ⌜ r ≤ 28 ⌝ }
     {
-        self.sheet.limit.min(self.terms.cap)
+        self.limit_1().min(self.terms.cap)
     }
 
     /// Opens a call on a date later than the last.

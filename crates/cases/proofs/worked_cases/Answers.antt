@@ -35,4 +35,17 @@ returns c =
       );
       edge-inside = refl;
       edge-outside = refl;
+      periods = record {
+        short = (refl, refl);
+        full = (refl, refl);
+        mixed = (refl, refl, refl);
+        half = refl;
+        thin = refl;
+        enough = refl;
+        first = refl;
+        second = refl;
+        sixth = refl;
+        anew = (refl, refl);
+        empty = (refl, refl, refl);
+      };
     }
