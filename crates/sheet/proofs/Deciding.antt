@@ -16,7 +16,7 @@ use Rattle.sheet.specs.declared.event.Event.{Event}
 use Rattle.sheet.specs.declared.event.Event.the-variants.{Opening, TimeEnd, IntermediateClose, Posting}
 use Rattle.sheet.specs.Gates.{lasts}
 use Rattle.sheet.specs.Thresholds.{minimumIn, reached}
-use Rattle.sheet.specs.Sheets.{averaged, gradeAfter, ended, closed, nextIn, next, closes, openedFrom, opened}
+use Rattle.sheet.specs.Sheets.{averaged, gradeAfter, fresh, ended, closed, nextIn, next, closes, openedFrom, opened}
 use Rattle.sheet.specs.Laws.{Sheet-and-date}
 
 -- the same terms with another cap and first number
@@ -50,7 +50,7 @@ closes-with (suc n) terms widest number s =
 
 ended-with : (terms : Terms) (widest number : ℕ) (s : Sheet) (start : Option Date) → ended (with terms widest number) s start ≡ ended terms s start
 ended-with terms widest number s start =
-    ap (λ (grade : Gate × ℕ). record { gate = grade .0; limit = grade .1; reference = averaged s; start = start; volume = 0; turnover = 0; intermediate = 1; recent = 0 })
+    ap (λ (grade : Gate × ℕ). fresh (grade .0) (grade .1) (averaged s) start)
     (grade-with (s .gate) terms widest number (s .volume))
 
 opened-with : (start : Option Date) (terms : Terms) (widest number : ℕ) (s : Sheet) (date : Date) → openedFrom start (with terms widest number) s date ≡ openedFrom start terms s date

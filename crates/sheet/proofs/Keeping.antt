@@ -23,8 +23,9 @@ use Rattle.sheet.specs.declared.sheet.Sheet.{Sheet}
 use Rattle.sheet.specs.declared.event.Event.{Event}
 use Rattle.sheet.specs.declared.event.Event.the-variants.{Opening, TimeEnd, IntermediateClose, Posting}
 use Rattle.sheet.specs.Thresholds.{eased, referenceIn, minimumIn, reached}
-use Rattle.sheet.specs.Sheets.{average, averaged, earned, gradeAfter, ended, started, closed, added, settled, nextIn, next}
-use Rattle.sheet.specs.Foundings.{first}
+use Rattle.sheet.specs.Sheets.{average, averaged, earned, gradeAfter, fresh, ended, started, closed, added, settled, nextIn, next}
+use Rattle.sheet.specs.declared.founding.FoundingSheet.{FoundingSheet}
+use Rattle.sheet.specs.Foundings.{termsInRange, sheetInRange, termsOf, founded}
 use Rattle.sheet.specs.Laws.{At-most-28}
 use Rattle.sheet.specs.Sounds.{isChoice, fits, sums, widenedFrom, widened, limits, isSound, Due}
 use Rattle.sheet.proofs.Averages.{average-between}
@@ -298,24 +299,22 @@ eight Two = refl
 eight Three = refl
 
 -- a share that is newly listed
-pub first-sound : (terms : Terms) (gate : Gate) (reference : ℕ) → isChoice (terms .choice) ≡ true → within 1 1000000000 (terms .circulation) ≡ true → within 1 100 (terms .«cap») ≡ true → within 1 4294967295 (terms .first) ≡ true → isPrice reference ≡ true → isSound terms (first gate reference) ≡ true
-first-sound terms gate reference choice circulation widest number price =
-    let fits-all : fits terms ≡ true =
-    and-from (isChoice (terms .choice) && within 1 1000000000 (terms .circulation) && within 1 100 (terms .«cap»)) (within 1 4294967295 (terms .first))
-    (and-from (isChoice (terms .choice) && within 1 1000000000 (terms .circulation)) (within 1 100 (terms .«cap»)) (and-from (isChoice (terms .choice)) (within 1 1000000000 (terms .circulation)) choice circulation) widest)
-    number in
-    let ends = and-parts (leb 1 reference) (leb reference 1000000000) price in
-    tested terms (first gate reference)
+pub founded-sound : (f : FoundingSheet) → termsInRange f ≡ true → sheetInRange f ≡ true → isSound (termsOf f) (founded f) ≡ true
+founded-sound f on-terms on-sheet =
+    let fits-all = and-parts (within 1 3 (f .float)) (fits (termsOf f)) on-terms .1 in
+    let price = and-parts (within 1 3 (f .gate)) (isPrice (f .reference)) on-sheet .1 in
+    let ends = and-parts (leb 1 (f .reference)) (leb (f .reference) 1000000000) price in
+    tested (termsOf f) (founded f)
     (record {
       fits = fits-all;
       sums = record {
-        running = none terms gate (fit terms fits-all);
+        running = none (termsOf f) (founded f .gate) (fit (termsOf f) fits-all);
         cheapest = omega arith;
         dearest = omega arith;
         part = omega arith;
-        price = (leb-true 1 reference (ends .0), leb-true reference 1000000000 (ends .1));
+        price = (leb-true 1 (f .reference) (ends .0), leb-true (f .reference) 1000000000 (ends .1));
       };
-      limits = eight gate;
+      limits = eight (founded f .gate);
     })
 
 -- outside Gate 3 no shares do not reach the minimum

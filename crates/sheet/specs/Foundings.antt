@@ -12,11 +12,8 @@ use Rattle.sheet.specs.declared.thresholds.Terms.{Terms}
 use Rattle.sheet.specs.declared.sheet.Sheet.{Sheet}
 use Rattle.sheet.specs.declared.founding.FoundingSheet.{FoundingSheet}
 use Rattle.sheet.specs.Gates.{gateNumber, floatNumber}
-use Rattle.sheet.specs.Sounds.{isChoice}
-
-abbrev pub inRange : FoundingSheet → Bool
-inRange f =
-    within 1 3 (f .gate) && within 1 3 (f .float) && isChoice (f .choice) && within 1 1000000000 (f .circulation) && isPrice (f .reference) && within 1 100 (f .«cap») && within 1 4294967295 (f .first)
+use Rattle.sheet.specs.Sheets.{fresh}
+use Rattle.sheet.specs.Sounds.{fits}
 
 -- the gate and the float that have a number from 1 to 3
 abbrev pub gateOf : ℕ → Gate
@@ -31,18 +28,15 @@ termsOf f =
     record { float = floatOf (f .float); choice = f .choice; circulation = f .circulation; «cap» = f .«cap»; first = f .first }
 
 -- the first sheet of a share
-abbrev pub first : Gate → ℕ → Sheet
-first gate reference =
-    record {
-      gate = gate;
-      limit = 8;
-      reference = reference;
-      start = None;
-      volume = 0;
-      turnover = 0;
-      intermediate = 1;
-      recent = 0;
-    }
-
 abbrev pub founded : FoundingSheet → Sheet
-founded f = first (gateOf (f .gate)) (f .reference)
+founded f = fresh (gateOf (f .gate)) 8 (f .reference) None
+
+abbrev pub termsInRange : FoundingSheet → Bool
+termsInRange f = within 1 3 (f .float) && fits (termsOf f)
+
+abbrev pub sheetInRange : FoundingSheet → Bool
+sheetInRange f = within 1 3 (f .gate) && isPrice (f .reference)
+
+-- which founding sheets are taken
+abbrev pub inRange : FoundingSheet → Bool
+inRange f = termsInRange f && sheetInRange f

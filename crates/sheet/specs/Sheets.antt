@@ -36,19 +36,23 @@ gradeAfter One terms volume = earned terms volume
 gradeAfter Two terms volume = earned terms volume
 gradeAfter Three terms volume = (Three, 8)
 
--- a period ends; the next one has started or not
-abbrev pub ended : Terms → Sheet → Option Date → Sheet
-ended terms s start =
+-- a sheet with nothing traded yet
+abbrev pub fresh : Gate → ℕ → ℕ → Option Date → Sheet
+fresh gate limit reference start =
     record {
-      gate = gradeAfter (s .gate) terms (s .volume) .0;
-      limit = gradeAfter (s .gate) terms (s .volume) .1;
-      reference = averaged s;
+      gate = gate;
+      limit = limit;
+      reference = reference;
       start = start;
       volume = 0;
       turnover = 0;
       intermediate = 1;
       recent = 0;
     }
+
+-- a period ends; the next one has started or not
+abbrev pub ended : Terms → Sheet → Option Date → Sheet
+ended terms s start = fresh (gradeAfter (s .gate) terms (s .volume) .0) (gradeAfter (s .gate) terms (s .volume) .1) (averaged s) start
 
 -- a period starts where none runs
 abbrev pub started : Sheet → Date → Sheet

@@ -1,8 +1,21 @@
 ghost use mathlib.Core.Path.{_≡_};
 ghost use Rattle.terms.specs.Prices.{within};
 ghost use Rattle.terms.specs.Refusals.{Admitted};
+ghost use Rattle.sheet.specs.Foundings.{founded, sheetInRange, termsInRange, termsOf};
 ghost use Rattle.sheet.specs.Sounds.{isChoice};
+use super::float::Float;
+use super::gate::Gate;
+use super::sheet::Sheet;
+use super::thresholds::Terms;
+use terms::MAX_PRICE;
 use terms::Refusal;
+
+const MAX_CIRCULATION: u32 = 1_000_000_000;
+
+const MAX_CAP: u32 = 100;
+
+// Limit 1 at the founding, in percent.
+const FIRST_LIMIT: u32 = 8;
 
 /// What a share is founded on, as it is handed in: any numbers.
 #[derive(Clone, Copy)]
@@ -24,7 +37,7 @@ pub struct FoundingSheet {
 }
 
 // The value, if it is from 1 to `most`.
-pub(crate) fn up_to(most: u32, value: u64) -> Result<u32, Refusal>
+fn up_to(most: u32, value: u64) -> Result<u32, Refusal>
     ensures { λ r. ⌜ Admitted (within 1 most value) r (λ n. n ≡ value) ⌝ }
 {
     if 1 <= value && value <= u64::from(most) {
@@ -35,11 +48,35 @@ pub(crate) fn up_to(most: u32, value: u64) -> Result<u32, Refusal>
 }
 
 // The value, if it is a threshold that a bank may choose.
-pub(crate) fn choice(value: u64) -> Result<u32, Refusal>
+fn choice(value: u64) -> Result<u32, Refusal>
     ensures { λ r. ⌜ Admitted (isChoice value) r (λ n. n ≡ value) ⌝ }
 {
     match value {
         1000 | 1200 | 1500 | 2000 | 2500 | 3000 => Ok(value as u32),
         _ => Err(Refusal::Parameter),
+    }
+}
+
+impl FoundingSheet {
+    // The terms that stay.
+    pub(crate) fn terms(self) -> Result<Terms, Refusal>
+        ensures { λ r. ⌜ Admitted (termsInRange self) r (λ t. t ≡ termsOf self) ⌝ }
+    {
+        Ok(Terms {
+            float: Float::new(self.float)?,
+            choice: choice(self.choice)?,
+            circulation: up_to(MAX_CIRCULATION, self.circulation)?,
+            cap: up_to(MAX_CAP, self.cap)?,
+            first: up_to(u32::MAX, self.first)?,
+        })
+    }
+
+    // The first sheet.
+    pub(crate) fn sheet(self) -> Result<Sheet, Refusal>
+        ensures { λ r. ⌜ Admitted (sheetInRange self) r (λ s. s ≡ founded self) ⌝ }
+    {
+        let gate = Gate::new(self.gate)?;
+        let reference = up_to(MAX_PRICE, self.reference)?;
+        Ok(Sheet::fresh(gate, FIRST_LIMIT, reference, None))
     }
 }

@@ -5,6 +5,7 @@ mod founding;
 mod gate;
 mod laws;
 mod listing;
+mod next;
 mod sheet;
 mod thresholds;
 

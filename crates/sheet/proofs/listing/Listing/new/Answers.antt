@@ -1,23 +1,14 @@
-use borrow.Author.Needs.{needs}
-use mathlib.Core.Path.{_≡_, refl, ap, _∙_}
-use Rattle.terms.specs.Prices.{within, isPrice}
-use Rattle.sheet.specs.Sounds.{isChoice, isCurrent}
-use Rattle.sheet.proofs.Keeping.{first-sound}
+use mathlib.Core.Path.{_≡_, refl, _∙_}
+use Rattle.std.specs.declared.option.Option.the-variants.{None}
+use Rattle.sheet.specs.Sounds.{isSound, isCurrent}
+use Rattle.sheet.proofs.Keeping.{founded-sound}
 use Rattle.sheet.proofs.listing.Listing.new.Needs as need
 
 pub ghost-result : need.ghost-result
 unfolding isCurrent
 ghost-result c =
-    let choice = c .in-Continue-choice .ensures tt in
-    let circulation = c .in-Continue-circulation .ensures tt in
-    let reference = c .in-Continue-reference .ensures tt in
-    let widest = c .in-Continue-cap .ensures tt in
-    let number = c .in-Continue-first .ensures tt in (
-      first-sound (record { float = c .in-Continue-float .float; choice = c .in-Continue-choice .choice; circulation = c .in-Continue-circulation .circulation; «cap» = c .in-Continue-cap .«cap»; first = c .in-Continue-first .first }) (c .in-Continue-gate .gate) (c .in-Continue-reference .reference)
-          (ap isChoice (choice .1) ∙ choice .0)
-          (ap (within 1 1000000000) (circulation .1) ∙ circulation .0)
-          (ap (within 1 100) (widest .1) ∙ widest .0)
-          (ap (within 1 4294967295) (number .1) ∙ number .0)
-          (ap isPrice (reference .1) ∙ reference .0),
-      (refl, tt),
+    let terms = c .in-Continue-terms .ensures tt in
+    let sheet = c .in-Continue-sheet .ensures tt in (
+      (λ i. isSound (terms .1 i) (sheet .1 i)) ∙ founded-sound (c .args .founding) (terms .0) (sheet .0),
+      ((λ i. isCurrent (sheet .1 i) None) ∙ refl, tt),
     )

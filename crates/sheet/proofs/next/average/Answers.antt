@@ -1,6 +1,6 @@
 use native.Mathlib.Omega.{arith}
 use Rattle.sheet.proofs.Averages.{average-between}
-use Rattle.sheet.proofs.sheet.average.Needs as need
+use Rattle.sheet.proofs.next.average.Needs as need
 
 pub cast-result : need.cast-result
 cast-result c =
