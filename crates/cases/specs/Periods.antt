@@ -8,6 +8,7 @@ use Rattle.std.specs.declared.option.Option.the-variants.{Some, None}
 use Rattle.terms.specs.declared.date.Date.{Date}
 use Rattle.terms.specs.declared.trade.Trade.{Trade}
 use Rattle.terms.specs.Dates.{isDate}
+use Rattle.sheet.specs.declared.gate.Gate.{Gate}
 use Rattle.sheet.specs.declared.gate.Gate.the-variants.{One, Two}
 use Rattle.sheet.specs.declared.founding.FoundingSheet.{FoundingSheet}
 use Rattle.sheet.specs.declared.sheet.Sheet.{Sheet}
@@ -55,15 +56,45 @@ march s = opened (termsOf bank) s (day 20240308 refl)
 abbrev pub nextYear : Sheet → Sheet
 nextYear s = opened (termsOf bank) s (day 20250110 refl)
 
+-- the example of docs/RULES.md: what stands on the sheet, line by line
+abbrev pub line : Gate → ℕ → ℕ → ℕ → ℕ → ℕ → Sheet → Type 0
+line gate limit reference volume intermediate recent s =
+    (s .gate ≡ gate) × (s .limit ≡ limit) × (s .reference ≡ reference) × (s .volume ≡ volume) × (s .intermediate ≡ intermediate) × (s .recent ≡ recent)
+
+abbrev pub firstTrade : Sheet
+firstTrade = traded (atTen 999)
+
+abbrev pub secondTrade : Sheet
+secondTrade = posted (termsOf bank) (march firstTrade) (atTenTen 1000)
+
+abbrev pub inMay : Sheet
+inMay = opened (termsOf bank) secondTrade (day 20240510 refl)
+
+abbrev pub thirdTrade : Sheet
+thirdTrade = posted (termsOf bank) inMay (trade 102000 8001 (lit< tt) (lit≤ tt))
+
+abbrev pub afterwards : Sheet
+afterwards = opened (termsOf bank) thirdTrade (day 20240517 refl)
+
+pub record Example : Type 0 where
+  pub opens : line One 8 100000 0 1 0 started
+  pub little : line One 8 100000 999 1 999 firstTrade
+  pub widens : line One 12 100000 999 2 0 (march firstTrade)
+  pub enough : line One 12 100000 1999 2 1000 secondTrade
+  pub stays : line One 12 100000 1999 3 0 inMay
+  pub ends : line Two 6 101700 0 1 0 thirdTrade
+  pub starts : line Two 6 101700 0 1 0 afterwards
+  pub from : afterwards .start ≡ Some (day 20240517 refl)
+
 pub record PeriodCases : Type 0 where
   -- 9,999 shares leave the period running, 10,000 end it
   pub short : (traded (atTen 9999) .start ≡ Some january) × (traded (atTen 9999) .volume ≡ 9999)
   pub full : (traded (atTen 10000) .start ≡ None) × (traded (atTen 10000) .volume ≡ 0)
   -- 4,000 shares at 10 euros and 6,000 at 10.10 end it at 10.06, in Gate 2 with 6 percent
   pub mixed : (tradedTwice (atTen 4000) (atTenTen 6000) .reference ≡ 100600) × (tradedTwice (atTen 4000) (atTenTen 6000) .gate ≡ Two) × (tradedTwice (atTen 4000) (atTenTen 6000) .limit ≡ 6)
-  -- halves go up: a share at 100,000 and one at 100,001
+  -- two shares, one a ten-thousandth dearer: halves go up
   pub half : nextYear (tradedTwice (atTen 1) (justAbove 1)) .reference ≡ 100001
-  -- 999 shares in an intermediate period widen the limit, 1,000 do not
+  -- one share short of the minimum the limit widens, at the minimum it does not
   pub thin : march (traded (atTen 999)) .limit ≡ 12
   pub enough : march (traded (atTen 1000)) .limit ≡ 8
   -- which intermediate period dates are in
@@ -73,3 +104,4 @@ pub record PeriodCases : Type 0 where
   pub anew : (nextYear started .start ≡ Some (day 20250110 refl)) × (nextYear started .intermediate ≡ 1)
   -- a period without shares, widened on the way, keeps its Reference Price and goes back to 8 percent
   pub empty : (nextYear (march started) .reference ≡ 100000) × (nextYear (march started) .limit ≡ 8) × (nextYear (march started) .gate ≡ One)
+  pub example : Example

@@ -2,12 +2,17 @@
 use mathlib.Core.Path.{_≡_, refl, sym, ap, _∙_}
 use Prim.Native.Nat.{ℕ, zero, suc, _+_, _-_, _≤_, _<_}
 use native.Mathlib.Omega.{arith}
+use lib.ListN.{replicate}
 use Rattle.sheet.specs.declared.gate.Gate.{Gate}
 use Rattle.sheet.specs.declared.gate.Gate.the-variants.{One, Two, Three}
 use Rattle.sheet.specs.declared.thresholds.Terms.{Terms}
 use Rattle.sheet.specs.declared.sheet.Sheet.{Sheet}
 use Rattle.sheet.specs.declared.event.Event.the-variants.{IntermediateClose}
-use Rattle.sheet.specs.Sheets.{closed, nextIn, next, closes}
+use Rattle.sheet.specs.Sheets.{closed, nextIn, next, after}
+
+-- n closes
+abbrev pub closes : ℕ → Terms → Sheet → Sheet
+closes n terms s = after terms s (replicate n IntermediateClose)
 
 -- one close leads at most one further
 pub one-further : (gate : Gate) (terms : Terms) (s : Sheet) → nextIn gate IntermediateClose terms s .intermediate ≤ s .intermediate + 1

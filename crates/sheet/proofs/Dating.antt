@@ -1,8 +1,8 @@
 -- The intermediate period stays the one of the last date opened. Assumes nothing.
-use mathlib.Core.Path.{_≡_, refl, sym, ap, _∙_}
-use mathlib.Core.Bool.{Bool, true, false, cond, _&&_}
+use mathlib.Core.Path.{_≡_, refl, ap, _∙_}
+use mathlib.Core.Bool.{true, false, _&&_}
 use mathlib.Core.Logic.{⊎-elim}
-use Prim.Native.Nat.{ℕ, zero, suc, _+_, _-_, _/_, _≤_, _<_}
+use Prim.Native.Nat.{ℕ, _+_, _-_, _/_, _≤_, _<_}
 use native.Mathlib.Omega.{arith}
 use lib.Dec.{leb, ltb, eqb}
 use Rattle.std.specs.declared.option.Option.{Option}
@@ -18,13 +18,13 @@ use Rattle.sheet.specs.declared.gate.Gate.{Gate}
 use Rattle.sheet.specs.declared.gate.Gate.the-variants.{One, Two, Three}
 use Rattle.sheet.specs.declared.thresholds.Terms.{Terms}
 use Rattle.sheet.specs.declared.sheet.Sheet.{Sheet}
-use Rattle.sheet.specs.declared.event.Event.the-variants.{Opening, TimeEnd, IntermediateClose, Posting}
+use Rattle.sheet.specs.declared.event.Event.the-variants.{Opening, TimeEnd}
 use Rattle.sheet.specs.Gates.{lasts}
 use Rattle.sheet.specs.Thresholds.{referenceIn, reached}
-use Rattle.sheet.specs.Sheets.{ended, added, settled, nextIn, next, closes, opened, posted, openedFrom}
+use Rattle.sheet.specs.Sheets.{ended, added, next, opened, posted}
 use Rattle.sheet.specs.Sounds.{currentFrom, isCurrent, isLater, Begins}
-use Rattle.sheet.proofs.Closing.{closes-move, one≢three, two≢three}
-use Rattle.sheet.proofs.Opening.{opened-late, opened-early}
+use Rattle.sheet.proofs.Closing.{closes, closes-move, one≢three, two≢three}
+use Rattle.sheet.proofs.Opening.{openedFrom, opened-late, opened-early}
 
 -- without a start it is the first
 begins-from : (start last : Option Date) (gate : Gate) (intermediate : ℕ) → currentFrom start last gate intermediate ≡ true → Begins start intermediate

@@ -1,22 +1,20 @@
 -- Which terms an opening goes by. Assumes nothing.
 use mathlib.Core.Path.{_≡_, refl, sym, ap, _∙_}
 use mathlib.Core.Bool.{cond}
-use Prim.Native.Nat.{ℕ, zero, suc, _+_, _-_, _/_}
-use lib.Dec.{leb}
+use mathlib.Core.List.{List, [], _∷_}
+use Prim.Native.Nat.{ℕ, _+_}
 use Rattle.std.specs.declared.option.Option.{Option}
 use Rattle.std.specs.declared.option.Option.the-variants.{Some, None}
 use Rattle.terms.specs.declared.date.Date.{Date}
-use Rattle.terms.specs.Dates.{wholeMonths}
-use Rattle.sheet.specs.declared.float.Float.{Float}
+use Rattle.terms.specs.Trades.{sharesOf}
 use Rattle.sheet.specs.declared.gate.Gate.{Gate}
 use Rattle.sheet.specs.declared.gate.Gate.the-variants.{One, Two, Three}
 use Rattle.sheet.specs.declared.thresholds.Terms.{Terms}
 use Rattle.sheet.specs.declared.sheet.Sheet.{Sheet}
 use Rattle.sheet.specs.declared.event.Event.{Event}
 use Rattle.sheet.specs.declared.event.Event.the-variants.{Opening, TimeEnd, IntermediateClose, Posting}
-use Rattle.sheet.specs.Gates.{lasts}
-use Rattle.sheet.specs.Thresholds.{minimumIn, reached}
-use Rattle.sheet.specs.Sheets.{averaged, gradeAfter, fresh, ended, closed, nextIn, next, closes, openedFrom, opened}
+use Rattle.sheet.specs.Thresholds.{referenceIn, minimumIn, reached}
+use Rattle.sheet.specs.Sheets.{averaged, gradeAfter, fresh, ended, closed, added, nextIn, next, after, eventsFrom, opened}
 use Rattle.sheet.specs.Laws.{Sheet-and-date}
 
 -- the same terms with another cap and first number
@@ -43,22 +41,28 @@ close-with One terms widest number s = closed-with terms widest number s
 close-with Two terms widest number s = closed-with terms widest number s
 close-with Three terms widest number s = refl
 
-closes-with : (n : ℕ) (terms : Terms) (widest number : ℕ) (s : Sheet) → closes n (with terms widest number) s ≡ closes n terms s
-closes-with zero terms widest number s = refl
-closes-with (suc n) terms widest number s =
-    closes-with n terms widest number (next (with terms widest number) s IntermediateClose) ∙ ap (closes n terms) (close-with (s .gate) terms widest number s)
-
 ended-with : (terms : Terms) (widest number : ℕ) (s : Sheet) (start : Option Date) → ended (with terms widest number) s start ≡ ended terms s start
 ended-with terms widest number s start =
     ap (λ (grade : Gate × ℕ). fresh (grade .0) (grade .1) (averaged s) start)
     (grade-with (s .gate) terms widest number (s .volume))
 
-opened-with : (start : Option Date) (terms : Terms) (widest number : ℕ) (s : Sheet) (date : Date) → openedFrom start (with terms widest number) s date ≡ openedFrom start terms s date
-opened-with None terms widest number s date = refl
-opened-with (Some start) terms widest number s date =
-    let m = wholeMonths (start .number) (date .number) in
-    λ i. cond (leb (lasts (s .gate)) m) (ended-with terms widest number s (Some date) i) (closes-with (m / 2 + 1 - s .intermediate) terms widest number s i)
+reference-with : (gate : Gate) (terms : Terms) (widest number : ℕ) → referenceIn gate (with terms widest number) ≡ referenceIn gate terms
+reference-with One terms widest number = refl
+reference-with Two terms widest number = refl
+reference-with Three terms widest number = refl
+
+next-with : (terms : Terms) (widest number : ℕ) (s : Sheet) (event : Event) → next (with terms widest number) s event ≡ next terms s event
+next-with terms widest number s (Opening date) = refl
+next-with terms widest number s (TimeEnd date) = ended-with terms widest number s (Some date)
+next-with terms widest number s IntermediateClose = close-with (s .gate) terms widest number s
+next-with terms widest number s (Posting trade) = λ i.
+    cond (reached terms (reference-with (s .gate) terms widest number i) (s .volume + sharesOf trade)) (ended-with terms widest number (added s trade) None i) (added s trade)
+
+after-with : (terms : Terms) (widest number : ℕ) (s : Sheet) (events : List Event) → after (with terms widest number) s events ≡ after terms s events
+after-with terms widest number s [] = refl
+after-with terms widest number s (e ∷ es) =
+    after-with terms widest number (next (with terms widest number) s e) es ∙ ap (λ (t : Sheet). after terms t es) (next-with terms widest number s e)
 
 pub sheet-and-date : Sheet-and-date
 sheet-and-date a b s date float choice circulation =
-    sym (opened-with (s .start) a (b .«cap») (b .first) s date) ∙ (λ i. opened (record { float = float i; choice = choice i; circulation = circulation i; «cap» = b .«cap»; first = b .first }) s date)
+    sym (after-with a (b .«cap») (b .first) s (eventsFrom (s .start) s date)) ∙ (λ i. opened (record { float = float i; choice = choice i; circulation = circulation i; «cap» = b .«cap»; first = b .first }) s date)

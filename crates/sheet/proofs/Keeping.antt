@@ -3,7 +3,7 @@ use mathlib.Core.Path.{_≡_, refl, sym, ap, _∙_}
 use mathlib.Core.Logic.{_⊎_, inl, inr, ⊎-elim}
 use mathlib.Core.Bool.{Bool, true, false, cond, not, _&&_, _||_}
 use Prim.Native.Nat.{ℕ, _+_, _-_, _*_, _/_, _%_, _≤_, _<_}
-use native.Mathlib.Nat.{mul-le-mul-right, mul-le-mul-left, mul-add, add-mul}
+use native.Mathlib.Nat.{mul-le-mul-right}
 use native.Mathlib.Omega.{arith}
 use lib.Dec.{leb, eqb, ltb}
 use Rattle.std.specs.declared.option.Option.{Option}
@@ -23,7 +23,7 @@ use Rattle.sheet.specs.declared.sheet.Sheet.{Sheet}
 use Rattle.sheet.specs.declared.event.Event.{Event}
 use Rattle.sheet.specs.declared.event.Event.the-variants.{Opening, TimeEnd, IntermediateClose, Posting}
 use Rattle.sheet.specs.Thresholds.{eased, referenceIn, minimumIn, reached}
-use Rattle.sheet.specs.Sheets.{average, averaged, earned, gradeAfter, fresh, ended, started, closed, added, settled, nextIn, next}
+use Rattle.sheet.specs.Sheets.{average, averaged, earned, gradeAfter, ended, closed, added, settled, nextIn, next}
 use Rattle.sheet.specs.declared.founding.FoundingSheet.{FoundingSheet}
 use Rattle.sheet.specs.Foundings.{termsInRange, sheetInRange, termsOf, founded}
 use Rattle.sheet.specs.Laws.{At-most-28}

@@ -1,7 +1,7 @@
 -- Openings on several dates of a period, and on the last alone. Assumes nothing.
 use mathlib.Core.Path.{_≡_, refl, sym, ap, _∙_}
-use mathlib.Core.Bool.{Bool, true, _&&_}
-use mathlib.Core.List.{List, [], _∷_, _++_}
+use mathlib.Core.Bool.{true}
+use mathlib.Core.List.{List, [], _∷_}
 use Prim.Native.Nat.{ℕ, zero, suc, _+_, _-_, _/_, _≤_, _<_}
 use native.Mathlib.Nat.{zero-add}
 use native.Mathlib.Omega.{arith}
@@ -17,10 +17,10 @@ use Rattle.sheet.specs.declared.thresholds.Terms.{Terms}
 use Rattle.sheet.specs.declared.sheet.Sheet.{Sheet}
 use Rattle.sheet.specs.declared.event.Event.the-variants.{IntermediateClose}
 use Rattle.sheet.specs.Gates.{lasts}
-use Rattle.sheet.specs.Sheets.{nextIn, next, closes, opened}
-use Rattle.sheet.specs.Periods.{openings, ascendTo}
+use Rattle.sheet.specs.Sheets.{nextIn, next, opened}
+use Rattle.sheet.specs.Periods.{ascendTo}
 use Rattle.sheet.specs.Laws.{One-or-several}
-use Rattle.sheet.proofs.Closing.{closes-move, one≢three, two≢three}
+use Rattle.sheet.proofs.Closing.{closes, closes-move, one≢three, two≢three}
 use Rattle.sheet.proofs.Opening.{opened-early}
 
 -- closes add up

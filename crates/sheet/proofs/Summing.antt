@@ -1,6 +1,6 @@
 -- What a period's sums come to, and its Reference Price. Assumes nothing.
-use mathlib.Core.Path.{_≡_, refl, sym, ap, _∙_}
-use mathlib.Core.Bool.{Bool, true, false, cond, _||_}
+use mathlib.Core.Path.{_≡_, refl, ap, _∙_}
+use mathlib.Core.Bool.{true, false, cond}
 use mathlib.Core.List.{List, [], _∷_, _++_}
 use Prim.Native.Nat.{ℕ, _+_, _*_, _≤_, _<_}
 use native.Mathlib.Nat.{mul-add, mul-le-mul-right}
@@ -8,6 +8,7 @@ use native.Mathlib.Omega.{arith}
 use lib.Dec.{eqb}
 use Rattle.std.specs.declared.option.Option.{Option}
 use Rattle.std.specs.declared.option.Option.the-variants.{Some, None}
+use Rattle.std.specs.shelf.Lists.{All}
 use Rattle.std.proofs.shelf.Tests.{cond-true, cond-false, eq-eqb, ne-eqb, or-parts, true≢false, false≢true}
 use Rattle.terms.specs.declared.trade.Trade.{Trade}
 use Rattle.terms.specs.Trades.{sharesOf, turnoverOf}
@@ -18,8 +19,8 @@ use Rattle.sheet.specs.declared.sheet.Sheet.{Sheet}
 use Rattle.sheet.specs.declared.event.Event.{Event}
 use Rattle.sheet.specs.declared.event.Event.the-variants.{Opening, TimeEnd, IntermediateClose, Posting}
 use Rattle.sheet.specs.Thresholds.{referenceIn, reached}
-use Rattle.sheet.specs.Sheets.{average, ended, added, settled, nextIn, next}
-use Rattle.sheet.specs.Periods.{after, ends, endsIn, Period, sharesIn, traded, PricedIn, Priced, AllPriced}
+use Rattle.sheet.specs.Sheets.{average, ended, added, nextIn, next, after}
+use Rattle.sheet.specs.Periods.{ends, endsIn, sharesIn, traded, PricedIn, Priced}
 use Rattle.sheet.specs.Laws.{Average-between, Empty-keeps}
 use Rattle.sheet.proofs.Averages.{average-between}
 
@@ -99,7 +100,7 @@ run terms s (e ∷ es) h =
     let more = run terms (next terms s e) es (parts .1) in
     record { volume = omega (arith, one .volume, more .volume); reference = more .reference ∙ one .reference }
 
-run-bounded : (terms : Terms) (s : Sheet) (es : List Event) (low high : ℕ) → endsIn terms s es ≡ false → AllPriced low high es → Bounded low high (s .volume) (s .turnover) → Bounded low high (after terms s es .volume) (after terms s es .turnover)
+run-bounded : (terms : Terms) (s : Sheet) (es : List Event) (low high : ℕ) → endsIn terms s es ≡ false → All (Priced low high) es → Bounded low high (s .volume) (s .turnover) → Bounded low high (after terms s es .volume) (after terms s es .turnover)
 run-bounded terms s [] low high h priced b = b
 run-bounded terms s (e ∷ es) low high h priced b =
     let parts = or-parts (ends terms s e) (endsIn terms (next terms s e) es) h in
@@ -116,7 +117,7 @@ traded-last : (es : List Event) (last : Event) → traded (es ++ last ∷ []) �
 traded-last [] last = omega arith
 traded-last (e ∷ es) last = let more = traded-last es last in omega arith
 
-priced-last : (low high : ℕ) (es : List Event) (last : Event) → AllPriced low high (es ++ last ∷ []) → AllPriced low high es × Priced low high last
+priced-last : (low high : ℕ) (es : List Event) (last : Event) → All (Priced low high) (es ++ last ∷ []) → All (Priced low high) es × Priced low high last
 priced-last low high [] last h = (tt, h .0)
 priced-last low high (e ∷ es) last h = let more = priced-last low high es last (h .1) in ((h .0, more .0), more .1)
 

@@ -1,12 +1,9 @@
 -- How far openings widen the limit. Assumes nothing.
 use mathlib.Core.Path.{_≡_, refl, sym, ap, _∙_}
 use mathlib.Core.Bool.{Bool, true, false, cond}
-use Prim.Native.Nat.{ℕ, zero, suc, _+_, _-_, _*_, _/_, _≤_, _<_}
+use Prim.Native.Nat.{ℕ, zero, suc, _+_, _-_, _*_, _/_, _<_}
 use native.Mathlib.Omega.{arith}
-use lib.Dec.{leb}
-use Rattle.std.specs.declared.option.Option.the-variants.{Some}
-use Rattle.std.proofs.shelf.Tests.{cond-true, cond-false, cond-both}
-use Rattle.terms.specs.declared.date.Date.{Date}
+use Rattle.std.proofs.shelf.Tests.{cond-true, cond-false}
 use Rattle.terms.specs.Dates.{wholeMonths}
 use Rattle.sheet.specs.declared.gate.Gate.{Gate}
 use Rattle.sheet.specs.declared.gate.Gate.the-variants.{One, Two, Three}
@@ -15,10 +12,10 @@ use Rattle.sheet.specs.declared.sheet.Sheet.{Sheet}
 use Rattle.sheet.specs.declared.event.Event.the-variants.{IntermediateClose}
 use Rattle.sheet.specs.Gates.{lasts}
 use Rattle.sheet.specs.Thresholds.{minimumIn, reached}
-use Rattle.sheet.specs.Sheets.{closed, nextIn, next, closes, opened}
+use Rattle.sheet.specs.Sheets.{closed, nextIn}
 use Rattle.sheet.specs.Sounds.{fits, isSound}
 use Rattle.sheet.specs.Laws.{Enough-keeps, widenings, Widens-once}
-use Rattle.sheet.proofs.Closing.{close-is, one≢three, two≢three}
+use Rattle.sheet.proofs.Closing.{closes, close-is, one≢three, two≢three}
 use Rattle.sheet.proofs.Keeping.{no-minimum, first-only, sound-fits}
 use Rattle.sheet.proofs.Opening.{opened-early}
 

@@ -1,9 +1,10 @@
 -- What the definitions of the sheet amount to. Assumes nothing.
 use mathlib.Core.Path.{_≡_}
-use mathlib.Core.Bool.{true, false, cond}
+use mathlib.Core.Bool.{true, cond}
 use mathlib.Core.List.{List, [], _∷_, _++_}
 use Prim.Native.Nat.{ℕ, zero, suc, _+_, _-_, _*_, _/_, _≤_, _<_}
 use Rattle.std.specs.declared.option.Option.the-variants.{Some}
+use Rattle.std.specs.shelf.Lists.{All}
 use Rattle.terms.specs.declared.date.Date.{Date}
 use Rattle.terms.specs.Prices.{distance}
 use Rattle.terms.specs.Dates.{wholeMonths}
@@ -14,9 +15,9 @@ use Rattle.sheet.specs.declared.event.Event.{Event}
 use Rattle.sheet.specs.declared.event.Event.the-variants.{IntermediateClose}
 use Rattle.sheet.specs.Gates.{lasts}
 use Rattle.sheet.specs.Thresholds.{minimumIn, reached}
-use Rattle.sheet.specs.Sheets.{average, next, opened}
+use Rattle.sheet.specs.Sheets.{average, next, after, opened}
 use Rattle.sheet.specs.Sounds.{isSound, Due}
-use Rattle.sheet.specs.Periods.{after, Period, traded, AllPriced, openings, ascendTo}
+use Rattle.sheet.specs.Periods.{Period, traded, Priced, openings, ascendTo}
 
 -- no whole number is nearer to turnover ÷ shares than the average, and one as near is not higher
 abbrev pub Nearest-average : Type 0
@@ -26,14 +27,14 @@ Nearest-average =
 -- the Reference Price after a period with shares lies between any two prices that all of its trades lie between
 abbrev pub Average-between : Type 0
 Average-between =
-    (terms : Terms) (s : Sheet) (events : List Event) (last : Event) (low high : ℕ) → Period terms s events last → AllPriced low high (events ++ last ∷ []) → 0 < traded (events ++ last ∷ []) → (low ≤ after terms s (events ++ last ∷ []) .reference) × (after terms s (events ++ last ∷ []) .reference ≤ high)
+    (terms : Terms) (s : Sheet) (events : List Event) (last : Event) (low high : ℕ) → Period terms s events last → All (Priced low high) (events ++ last ∷ []) → 0 < traded (events ++ last ∷ []) → (low ≤ after terms s (events ++ last ∷ []) .reference) × (after terms s (events ++ last ∷ []) .reference ≤ high)
 
--- a period without shares keeps its Reference Price
+-- where nothing is traded in a period, the Reference Price stays
 abbrev pub Empty-keeps : Type 0
 Empty-keeps =
     (terms : Terms) (s : Sheet) (events : List Event) (last : Event) → Period terms s events last → traded (events ++ last ∷ []) ≡ 0 → after terms s (events ++ last ∷ []) .reference ≡ s .reference
 
--- an intermediate period that reached its minimum does not widen the limit
+-- enough shares in an intermediate period leave the limit as it is
 abbrev pub Enough-keeps : Type 0
 Enough-keeps = (terms : Terms) (s : Sheet) → reached terms (minimumIn (s .gate) terms) (s .recent) ≡ true → next terms s IntermediateClose .limit ≡ s .limit
 

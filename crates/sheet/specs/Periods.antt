@@ -14,12 +14,7 @@ use Rattle.sheet.specs.declared.sheet.Sheet.{Sheet}
 use Rattle.sheet.specs.declared.event.Event.{Event}
 use Rattle.sheet.specs.declared.event.Event.the-variants.{Opening, TimeEnd, IntermediateClose, Posting}
 use Rattle.sheet.specs.Thresholds.{referenceIn, reached}
-use Rattle.sheet.specs.Sheets.{next, opened}
-
--- the sheet after some events
-abbrev pub after : Terms → Sheet → List Event → Sheet
-after terms s [] = s
-after terms s (e ∷ es) = after terms (next terms s e) es
+use Rattle.sheet.specs.Sheets.{next, after, opened}
 
 -- whether an event ends the period
 abbrev pub ends : Terms → Sheet → Event → Bool
@@ -61,10 +56,6 @@ Priced low high (Opening date) = Unit {0}
 Priced low high (TimeEnd date) = Unit {0}
 Priced low high IntermediateClose = Unit {0}
 Priced low high (Posting trade) = PricedIn low high trade
-
-abbrev pub AllPriced : ℕ → ℕ → List Event → Type 0
-AllPriced low high [] = Unit {0}
-AllPriced low high (e ∷ es) = Priced low high e × AllPriced low high es
 
 -- openings one after the other, with nothing posted in between
 abbrev pub openings : Terms → Sheet → List Date → Sheet

@@ -1,7 +1,9 @@
 -- The period sheet: what becomes of it. Assumes nothing.
-use mathlib.Core.Bool.{Bool, cond}
-use Prim.Native.Nat.{ℕ, zero, suc, _+_, _-_, _*_, _/_}
+use mathlib.Core.Bool.{cond}
+use mathlib.Core.List.{List, [], _∷_}
+use Prim.Native.Nat.{ℕ, _+_, _-_, _*_, _/_}
 use lib.Dec.{eqb, leb}
+use lib.ListN.{replicate}
 use Rattle.std.specs.declared.option.Option.{Option}
 use Rattle.std.specs.declared.option.Option.the-variants.{Some, None}
 use Rattle.terms.specs.declared.date.Date.{Date}
@@ -112,23 +114,23 @@ nextIn gate (Posting trade) terms s = settled terms (added s trade)
 abbrev pub next : Terms → Sheet → Event → Sheet
 next terms s event = nextIn (s .gate) event terms s
 
--- n intermediate periods close one after the other
-abbrev pub closes : ℕ → Terms → Sheet → Sheet
-closes zero terms s = s
-closes (suc n) terms s = closes n terms (next terms s IntermediateClose)
+-- the sheet after some events
+abbrev pub after : Terms → Sheet → List Event → Sheet
+after terms s [] = s
+after terms s (e ∷ es) = after terms (next terms s e) es
 
--- a call opens m whole months after the start: the period has lasted its time, or intermediate periods close up to the one after m ÷ 2
-abbrev pub openedAfter : ℕ → Terms → Sheet → Date → Sheet
-openedAfter m terms s date = cond (leb (lasts (s .gate)) m) (next terms s (TimeEnd date)) (closes (m / 2 + 1 - s .intermediate) terms s)
+-- the events that an opening brings, with m whole months since the start: the period has lasted its time, or intermediate periods close up to the one after m ÷ 2
+abbrev pub eventsAfter : ℕ → Sheet → Date → List Event
+eventsAfter m s date = cond (leb (lasts (s .gate)) m) (TimeEnd date ∷ []) (replicate (m / 2 + 1 - s .intermediate) IntermediateClose)
 
-abbrev pub openedFrom : Option Date → Terms → Sheet → Date → Sheet
-openedFrom None terms s date = next terms s (Opening date)
-openedFrom (Some start) terms s date = openedAfter (wholeMonths (start .number) (date .number)) terms s date
+abbrev pub eventsFrom : Option Date → Sheet → Date → List Event
+eventsFrom None s date = Opening date ∷ []
+eventsFrom (Some start) s date = eventsAfter (wholeMonths (start .number) (date .number)) s date
 
--- what an opening on a date does
+-- an opening does what its events do
 abbrev pub opened : Terms → Sheet → Date → Sheet
-opened terms s date = openedFrom (s .start) terms s date
+opened terms s date = after terms s (eventsFrom (s .start) s date)
 
--- what the posting of a call's outcome does
+-- and a posting is an event itself
 abbrev pub posted : Terms → Sheet → Option Trade → Sheet
 posted terms s trade = next terms s (Posting trade)

@@ -45,7 +45,7 @@ limits Three limit intermediate = eqb intermediate 1 && eqb limit 8
 unfoldable pub isSound : Terms → Sheet → Bool
 isSound terms s = fits terms && sums terms s && limits (s .gate) (s .limit) (s .intermediate)
 
--- the intermediate period is the one that the last date opened is in, counted from the start
+-- at the last opening, so many whole months after the start, this was the intermediate period
 abbrev pub currentFrom : Option Date → Option Date → Gate → ℕ → Bool
 currentFrom None last gate intermediate = eqb intermediate 1
 currentFrom (Some start) None gate intermediate = false
@@ -67,6 +67,7 @@ Due s (TimeEnd date) = Unit {0}
 Due s IntermediateClose = s .intermediate < 6
 Due s (Posting trade) = Unit {0}
 
+-- which it is where none runs
 abbrev pub Begins : Option Date → ℕ → Type 0
 Begins None intermediate = intermediate ≡ 1
 Begins (Some start) intermediate = Unit {0}

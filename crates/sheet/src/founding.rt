@@ -22,7 +22,7 @@ const FIRST_LIMIT: u32 = 8;
 pub struct FoundingSheet {
     /// From 1 to 3.
     pub gate: u64,
-    /// 1, above a quarter; 2, at most a quarter; or 3, at most a tenth.
+    /// From 1 to 3.
     pub float: u64,
     /// The reference threshold that the bank chose for Gate 2.
     pub choice: u64,

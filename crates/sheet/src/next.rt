@@ -1,7 +1,9 @@
 ghost use mathlib.Core.Path.{_≡_};
 ghost use mathlib.Core.Bool.{true};
 ghost use Prim.Native.Nat.{_*_, _-_, _<_, _≤_};
-ghost use Rattle.sheet.specs.Sheets.{added, average, closed, closes, ended, gradeAfter, next, opened, posted, settled};
+ghost use lib.ListN.{replicate};
+ghost use Rattle.sheet.specs.Sheets.{added, after, average, closed, ended, gradeAfter, next, opened, posted, settled};
+ghost use Rattle.sheet.specs.declared.event.Event.the-variants.{IntermediateClose};
 ghost use Rattle.sheet.specs.Sounds.{Begins, Due, isSound};
 use super::event::Event;
 use super::gate::Gate;
@@ -14,11 +16,11 @@ use terms::Trade;
 const WIDENING: u32 = 4;
 
 // The average price of shares, halves up.
-fn average(turnover: u64, shares: u64) -> u32
+fn average(turnover: u64, shares: u64) -> u64
     requires { ⌜ 0 < shares ⌝ ∗ ⌜ shares < 4400000000 ⌝ ∗ ⌜ turnover ≤ 1000000000 * shares ⌝ }
     ensures { λ r. ⌜ r ≡ average turnover shares ⌝ }
 {
-    ((2 * turnover + shares) / (2 * shares)) as u32
+    (2 * turnover + shares) / (2 * shares)
 }
 
 // The gate and Limit 1 that a period with so many shares leads to.
@@ -76,7 +78,7 @@ impl Sheet {
     fn closed_before(self, terms: Terms, intermediate: u32) -> Sheet
         requires sound { ⌜ isSound terms self ≡ true ⌝ }
         requires last { ⌜ intermediate ≤ 6 ⌝ }
-        ensures closes { λ r. ⌜ r ≡ closes (intermediate - self .intermediate) terms self ⌝ }
+        ensures closes { λ r. ⌜ r ≡ after terms self (replicate (intermediate - self .intermediate) IntermediateClose) ⌝ }
         ensures sound { λ r. ⌜ isSound terms r ≡ true ⌝ }
     {
         let mut sheet = self;
@@ -114,7 +116,7 @@ impl Sheet {
         let reference = if self.volume == 0 {
             self.reference
         } else {
-            average(self.turnover, self.volume)
+            average(self.turnover, self.volume) as u32
         };
         let (gate, limit) = grade_after(self.gate, terms, self.volume);
         Sheet::fresh(gate, limit, reference, start)

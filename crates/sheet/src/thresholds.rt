@@ -1,5 +1,5 @@
 ghost use mathlib.Core.Path.{_≡_};
-ghost use Prim.Native.Nat.{_<_, _≤_};
+ghost use Prim.Native.Nat.{_<_};
 ghost use Rattle.sheet.specs.Thresholds.{eased, minimumIn, reached, referenceIn};
 use super::float::Float;
 use super::gate::Gate;

@@ -1,9 +1,9 @@
 -- Whole months: they grow with the later date. Assumes nothing.
 use mathlib.Core.Path.{_≡_, sym, ap, subst}
-use mathlib.Core.Bool.{true, cond, _&&_}
-use mathlib.Core.Logic.{_⊎_, inl, inr, ⊎-elim}
+use mathlib.Core.Bool.{true, _&&_}
+use mathlib.Core.Logic.{_⊎_, ⊎-elim}
 use Prim.Native.Nat.{ℕ, _+_, _-_, _*_, _/_, _%_, _≤_, _<_}
-use lib.Dec.{leb, ltb}
+use lib.Dec.{leb}
 use native.Mathlib.Omega.{arith}
 use Rattle.std.proofs.shelf.Tests.{and-parts, leb-true, cases-lt}
 use Rattle.std.proofs.shelf.Ways.{tells}

@@ -60,7 +60,7 @@ impl Date {
     pub fn is_after(self, other: Date) -> bool
         ensures { λ r. ⌜ r ≡ ltb (other .number) (self .number) ⌝ }
     {
-        self.number > other.number
+        other.number < self.number
     }
 
     /// How many whole months have passed since `start`; none if this date is the earlier one.
@@ -76,6 +76,6 @@ impl Date {
     fn month_count(self) -> u32
         ensures { λ r. ⌜ r ≡ monthCount (self .number) ⌝ }
     {
-        self.number / 10_000 * 12 + self.number / 100 % 100
+        12 * (self.number / 10_000) + self.number / 100 % 100
     }
 }

@@ -47,5 +47,15 @@ returns c =
         sixth = refl;
         anew = (refl, refl);
         empty = (refl, refl, refl);
+        example = record {
+          opens = (refl, refl, refl, refl, refl, refl);
+          little = (refl, refl, refl, refl, refl, refl);
+          widens = (refl, refl, refl, refl, refl, refl);
+          enough = (refl, refl, refl, refl, refl, refl);
+          stays = (refl, refl, refl, refl, refl, refl);
+          ends = (refl, refl, refl, refl, refl, refl);
+          starts = (refl, refl, refl, refl, refl, refl);
+          from = refl;
+        };
       };
     }

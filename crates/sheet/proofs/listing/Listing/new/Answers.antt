@@ -1,4 +1,4 @@
-use mathlib.Core.Path.{_≡_, refl, _∙_}
+use mathlib.Core.Path.{refl, _∙_}
 use Rattle.std.specs.declared.option.Option.the-variants.{None}
 use Rattle.sheet.specs.Sounds.{isSound, isCurrent}
 use Rattle.sheet.proofs.Keeping.{founded-sound}

@@ -1,6 +1,6 @@
 use mathlib.Core.Path.{_≡_}
 use Prim.Native.Nat.{_-_, _≤_}
-use Rattle.sheet.specs.Sheets.{closes}
+use Rattle.sheet.proofs.Closing.{closes}
 use mathlib.Core.Bool.{true}
 use Rattle.sheet.specs.Sounds.{isSound}
 use Rattle.sheet.proofs.sheet.Sheet.closed_before.Given as given

@@ -1,4 +1,4 @@
-use mathlib.Core.Path.{_≡_, sym, _∙_}
+use mathlib.Core.Path.{sym, _∙_}
 use native.Mathlib.Omega.{arith}
 use Rattle.sheet.proofs.Opening.{opened-late}
 use Rattle.sheet.proofs.sheet.Sheet.opened.Needs as need
