@@ -1,12 +1,12 @@
 -- The worked cases of the period sheet: the shares of one bank from 5 January 2024 on. Assumes nothing.
 use mathlib.Core.Path.{_≡_, refl}
 use mathlib.Core.Bool.{true}
-use Prim.Native.Nat.{ℕ, _≤_, _<_}
-use lib.Dec.{lit<, lit≤}
+use Prim.Native.Nat.{ℕ}
 use Rattle.std.specs.declared.option.Option.{Option}
 use Rattle.std.specs.declared.option.Option.the-variants.{Some, None}
 use Rattle.terms.specs.declared.date.Date.{Date}
 use Rattle.terms.specs.declared.trade.Trade.{Trade}
+use Rattle.terms.specs.Prices.{isPrice}
 use Rattle.terms.specs.Dates.{isDate}
 use Rattle.sheet.specs.declared.gate.Gate.{Gate}
 use Rattle.sheet.specs.declared.gate.Gate.the-variants.{One, Two}
@@ -19,18 +19,18 @@ use Rattle.sheet.specs.Sheets.{opened, posted}
 abbrev pub day : (n : ℕ) → isDate n ≡ true → Date
 day n valid = record { number = n; valid = valid }
 
-abbrev pub trade : (price shares : ℕ) → 0 < price → price ≤ 1000000000 → Option Trade
-trade price shares low high = Some (record { price = price; shares = shares; low = low; high = high })
+abbrev pub trade : (price shares : ℕ) → isPrice price ≡ true → Option Trade
+trade price shares valid = Some (record { price = price; shares = shares; valid = valid })
 
 -- shares at 10 euros, at a ten-thousandth more, and at 10.10
 abbrev pub atTen : ℕ → Option Trade
-atTen shares = trade 100000 shares (lit< tt) (lit≤ tt)
+atTen shares = trade 100000 shares refl
 
 abbrev pub justAbove : ℕ → Option Trade
-justAbove shares = trade 100001 shares (lit< tt) (lit≤ tt)
+justAbove shares = trade 100001 shares refl
 
 abbrev pub atTenTen : ℕ → Option Trade
-atTenTen shares = trade 101000 shares (lit< tt) (lit≤ tt)
+atTenTen shares = trade 101000 shares refl
 
 -- a million shares with a large float, in Gate 1 at 10 euros
 abbrev pub bank : FoundingSheet
@@ -71,7 +71,7 @@ abbrev pub inMay : Sheet
 inMay = opened (termsOf bank) secondTrade (day 20240510 refl)
 
 abbrev pub thirdTrade : Sheet
-thirdTrade = posted (termsOf bank) inMay (trade 102000 8001 (lit< tt) (lit≤ tt))
+thirdTrade = posted (termsOf bank) inMay (trade 102000 8001 refl)
 
 abbrev pub afterwards : Sheet
 afterwards = opened (termsOf bank) thirdTrade (day 20240517 refl)

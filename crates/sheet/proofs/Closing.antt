@@ -20,6 +20,12 @@ one-further One terms s = omega arith
 one-further Two terms s = omega arith
 one-further Three terms s = omega arith
 
+-- and the start stays
+pub start-stays : (gate : Gate) (terms : Terms) (s : Sheet) → nextIn gate IntermediateClose terms s .start ≡ s .start
+start-stays One terms s = refl
+start-stays Two terms s = refl
+start-stays Three terms s = refl
+
 -- of the closes up to an intermediate period, the first and then the others
 pub first-close : (terms : Terms) (s t : Sheet) (to at : ℕ) → at < to → t ≡ next terms s IntermediateClose → closes (to - (at + 1)) terms t ≡ closes (to - at) terms s
 first-close terms s t to at lt is =

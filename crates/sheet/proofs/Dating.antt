@@ -12,7 +12,6 @@ use Rattle.std.proofs.shelf.Ways.{tells}
 use Rattle.terms.specs.declared.date.Date.{Date}
 use Rattle.terms.specs.declared.trade.Trade.{Trade}
 use Rattle.terms.specs.Dates.{wholeMonths}
-use Rattle.terms.specs.Trades.{sharesOf}
 use Rattle.terms.proofs.Months.{months-none, months-grow}
 use Rattle.sheet.specs.declared.gate.Gate.{Gate}
 use Rattle.sheet.specs.declared.gate.Gate.the-variants.{One, Two, Three}
@@ -20,20 +19,10 @@ use Rattle.sheet.specs.declared.thresholds.Terms.{Terms}
 use Rattle.sheet.specs.declared.sheet.Sheet.{Sheet}
 use Rattle.sheet.specs.declared.event.Event.the-variants.{Opening, TimeEnd}
 use Rattle.sheet.specs.Gates.{lasts}
-use Rattle.sheet.specs.Thresholds.{referenceIn, reached}
-use Rattle.sheet.specs.Sheets.{ended, added, next, opened, posted}
-use Rattle.sheet.specs.Sounds.{currentFrom, isCurrent, isLater, Begins}
+use Rattle.sheet.specs.Sheets.{isOver, ended, added, next, opened, posted}
+use Rattle.sheet.specs.Sounds.{currentFrom, isCurrent, isLater}
 use Rattle.sheet.proofs.Closing.{closes, closes-move, one≢three, two≢three}
 use Rattle.sheet.proofs.Opening.{openedFrom, opened-late, opened-early}
-
--- without a start it is the first
-begins-from : (start last : Option Date) (gate : Gate) (intermediate : ℕ) → currentFrom start last gate intermediate ≡ true → Begins start intermediate
-begins-from None last gate intermediate h = eqb-true intermediate 1 h
-begins-from (Some start) last gate intermediate h = tt
-
-pub begins : (s : Sheet) (last : Option Date) → isCurrent s last ≡ true → Begins (s .start) (s .intermediate)
-unfolding isCurrent
-begins s last h = begins-from (s .start) last (s .gate) (s .intermediate) h
 
 -- a period that starts today is in its first
 at-least : (gate : Gate) → 2 ≤ lasts gate
@@ -50,7 +39,7 @@ today date gate =
 pub posted-current : (terms : Terms) (s : Sheet) (trade : Option Trade) (last : Option Date) → isCurrent s last ≡ true → isCurrent (posted terms s trade) last ≡ true
 unfolding isCurrent
 posted-current terms s trade last h =
-    cond-both (reached terms (referenceIn (s .gate) terms) (s .volume + sharesOf trade)) (ended terms (added s trade) None) (added s trade) (λ t. currentFrom (t .start) last (t .gate) (t .intermediate) ≡ true)
+    cond-both (isOver terms (added s trade)) (ended terms (added s trade) None) (added s trade) (λ t. currentFrom (t .start) last (t .gate) (t .intermediate) ≡ true)
     (λ e. refl)
     (λ e. h)
 

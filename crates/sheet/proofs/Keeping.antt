@@ -8,11 +8,13 @@ use native.Mathlib.Omega.{arith}
 use lib.Dec.{leb, eqb, ltb}
 use Rattle.std.specs.declared.option.Option.{Option}
 use Rattle.std.specs.declared.option.Option.the-variants.{Some, None}
+use Rattle.std.specs.Options.{isSome}
 use Rattle.std.proofs.shelf.Tests.{cond-both, leb-false, lt-leb, eqb-false, and-parts, and-from, or-cases, or-left, or-right, leb-true, ltb-true, eqb-true, true≢false, false≢true}
 use Rattle.std.proofs.shelf.Ways.{tells}
 use Rattle.terms.specs.declared.date.Date.{Date}
 use Rattle.terms.specs.declared.trade.Trade.{Trade}
 use Rattle.terms.specs.Prices.{within, isPrice, IsPrice}
+use Rattle.terms.proofs.Pricing.{is-price}
 use Rattle.terms.specs.Trades.{sharesOf, turnoverOf}
 use Rattle.sheet.specs.declared.float.Float.{Float}
 use Rattle.sheet.specs.declared.float.Float.the-variants.{AboveQuarter, AtMostQuarter, AtMostTenth}
@@ -23,12 +25,13 @@ use Rattle.sheet.specs.declared.sheet.Sheet.{Sheet}
 use Rattle.sheet.specs.declared.event.Event.{Event}
 use Rattle.sheet.specs.declared.event.Event.the-variants.{Opening, TimeEnd, IntermediateClose, Posting}
 use Rattle.sheet.specs.Thresholds.{eased, referenceIn, minimumIn, reached}
-use Rattle.sheet.specs.Sheets.{average, averaged, earned, gradeAfter, ended, closed, added, settled, nextIn, next}
+use Rattle.sheet.specs.Sheets.{average, averaged, earned, gradeAfter, ended, closed, added, isOver, settled, nextIn, next}
 use Rattle.sheet.specs.declared.founding.FoundingSheet.{FoundingSheet}
 use Rattle.sheet.specs.Foundings.{termsInRange, sheetInRange, termsOf, founded}
 use Rattle.sheet.specs.Laws.{At-most-28}
-use Rattle.sheet.specs.Sounds.{isChoice, fits, sums, widenedFrom, widened, limits, isSound, Due}
+use Rattle.sheet.specs.Sounds.{isChoice, fits, sums, widenedFrom, limits, begins, isSound, Due}
 use Rattle.sheet.proofs.Averages.{average-between}
+use Rattle.sheet.proofs.Closing.{one≢three, two≢three}
 
 -- what the test says, as facts
 pub record Fit (terms : Terms) : Type 0 where
@@ -45,8 +48,9 @@ pub record Sums (ends : Bool) (volume turnover recent reference : ℕ) : Type 0 
 
 pub record Sound (terms : Terms) (s : Sheet) : Type 0 where
   pub fits : fits terms ≡ true
-  pub sums : Sums (reached terms (referenceIn (s .gate) terms) (s .volume)) (s .volume) (s .turnover) (s .recent) (s .reference)
+  pub sums : Sums (isOver terms s) (s .volume) (s .turnover) (s .recent) (s .reference)
   pub limits : limits (s .gate) (s .limit) (s .intermediate) ≡ true
+  pub begins : begins (s .start) (s .intermediate) ≡ true
 
 fit : (terms : Terms) → fits terms ≡ true → Fit terms
 fit terms h = record { choice = grind (arith, tells); some = grind (arith, tells); most = grind (arith, tells) }
@@ -69,19 +73,23 @@ sums-tested false volume turnover recent reference sums = grind (arith, tells)
 facts : (terms : Terms) (s : Sheet) → isSound terms s ≡ true → Sound terms s
 unfolding isSound
 facts terms s h =
-    let parts = and-parts (fits terms && sums terms s) (limits (s .gate) (s .limit) (s .intermediate)) h in
-    let left = and-parts (fits terms) (sums terms s) (parts .0) in
+    let parts = and-parts (fits terms && sums terms s && limits (s .gate) (s .limit) (s .intermediate)) (begins (s .start) (s .intermediate)) h in
+    let left = and-parts (fits terms && sums terms s) (limits (s .gate) (s .limit) (s .intermediate)) (parts .0) in
+    let first = and-parts (fits terms) (sums terms s) (left .0) in
     record {
-      fits = left .0;
-      sums = sums-facts (reached terms (referenceIn (s .gate) terms) (s .volume)) (s .volume) (s .turnover) (s .recent) (s .reference) (left .1);
-      limits = parts .1;
+      fits = first .0;
+      sums = sums-facts (isOver terms s) (s .volume) (s .turnover) (s .recent) (s .reference) (first .1);
+      limits = left .1;
+      begins = parts .1;
     }
 
 tested : (terms : Terms) (s : Sheet) → Sound terms s → isSound terms s ≡ true
 unfolding isSound
 tested terms s sound =
-    let all = sums-tested (reached terms (referenceIn (s .gate) terms) (s .volume)) (s .volume) (s .turnover) (s .recent) (s .reference) (sound .sums) in
-    and-from (fits terms && sums terms s) (limits (s .gate) (s .limit) (s .intermediate)) (and-from (fits terms) (sums terms s) (sound .fits) all) (sound .limits)
+    let all = sums-tested (isOver terms s) (s .volume) (s .turnover) (s .recent) (s .reference) (sound .sums) in
+    and-from (fits terms && sums terms s && limits (s .gate) (s .limit) (s .intermediate)) (begins (s .start) (s .intermediate))
+    (and-from (fits terms && sums terms s) (limits (s .gate) (s .limit) (s .intermediate)) (and-from (fits terms) (sums terms s) (sound .fits) all) (sound .limits))
+    (sound .begins)
 
 -- reference thresholds, whatever the gate
 pub record Threshold (t : ℕ) : Type 0 where
@@ -123,10 +131,12 @@ from-most first limit intermediate low last h =
     let c = ltb-true ((limit - first) / 4) intermediate (parts .1) in
     omega arith
 
-widened-most : (limit intermediate : ℕ) → (within 1 6 intermediate && widened limit intermediate) ≡ true → limit ≤ 28
-widened-most limit intermediate h =
-    let parts = and-parts (within 1 6 intermediate) (widened limit intermediate) h in
-    let last : intermediate ≤ 6 = leb-true intermediate 6 (and-parts (leb 1 intermediate) (leb intermediate 6) (parts .0) .1) in
+-- any of the three beginnings
+abbrev widened : ℕ → ℕ → Bool
+widened limit intermediate = widenedFrom 8 limit intermediate || widenedFrom 6 limit intermediate || widenedFrom 4 limit intermediate
+
+widened-most : (limit intermediate : ℕ) → intermediate ≤ 6 → widened limit intermediate ≡ true → limit ≤ 28
+widened-most limit intermediate last h =
     ⊎-elim
     (λ e.
     ⊎-elim
@@ -134,11 +144,19 @@ widened-most limit intermediate h =
     (from-most 6 limit intermediate (omega arith) last)
     (or-cases (widenedFrom 8 limit intermediate) (widenedFrom 6 limit intermediate) e))
     (from-most 4 limit intermediate (omega arith) last)
-    (or-cases (widenedFrom 8 limit intermediate || widenedFrom 6 limit intermediate) (widenedFrom 4 limit intermediate) (parts .1))
+    (or-cases (widenedFrom 8 limit intermediate || widenedFrom 6 limit intermediate) (widenedFrom 4 limit intermediate) h)
+
+-- the two parts of the test outside Gate 3
+six : (intermediate : ℕ) → within 1 6 intermediate ≡ true → intermediate ≤ 6
+six intermediate h = leb-true intermediate 6 (and-parts (leb 1 intermediate) (leb intermediate 6) h .1)
 
 limit-most : (gate : Gate) (limit intermediate : ℕ) → limits gate limit intermediate ≡ true → limit ≤ 28
-limit-most One limit intermediate h = widened-most limit intermediate h
-limit-most Two limit intermediate h = widened-most limit intermediate h
+limit-most One limit intermediate h =
+    let parts = and-parts (within 1 6 intermediate) (widenedFrom 8 limit intermediate) h in
+    from-most 8 limit intermediate (omega arith) (six intermediate (parts .0)) (parts .1)
+limit-most Two limit intermediate h =
+    let parts = and-parts (within 1 6 intermediate) (widened limit intermediate) h in
+    widened-most limit intermediate (six intermediate (parts .0)) (parts .1)
 limit-most Three limit intermediate h =
     let is = eqb-true limit 8 (and-parts (eqb intermediate 1) (eqb limit 8) h .1) in
     omega arith
@@ -155,14 +173,21 @@ any-of-three a b c a' b' c' on-a on-b on-c h =
     (or-cases (a || b) c h)
 
 -- a close in Gate 1 or 2
-closed-limits : (limit intermediate wider : ℕ) → (within 1 6 intermediate && widened limit intermediate) ≡ true → intermediate < 6 → (wider ≡ 0) ⊎ (wider ≡ 4) → (within 1 6 (intermediate + 1) && widened (limit + wider) (intermediate + 1)) ≡ true
-closed-limits limit intermediate wider h due by =
+next-within : (intermediate : ℕ) → intermediate < 6 → within 1 6 (intermediate + 1) ≡ true
+next-within intermediate due = grind (arith, tells)
+
+closed-limits : (gate : Gate) (limit intermediate wider : ℕ) → (gate ≡ Three → ⊥) → limits gate limit intermediate ≡ true → intermediate < 6 → (wider ≡ 0) ⊎ (wider ≡ 4) → limits gate (limit + wider) (intermediate + 1) ≡ true
+closed-limits One limit intermediate wider other h due by =
     let next = intermediate + 1 in
-    let inside : within 1 6 next ≡ true = grind (arith, tells) in
-    and-from (within 1 6 next) (widened (limit + wider) next) inside
+    and-from (within 1 6 next) (widenedFrom 8 (limit + wider) next) (next-within intermediate due)
+    (from-wider 8 limit intermediate wider by (and-parts (within 1 6 intermediate) (widenedFrom 8 limit intermediate) h .1))
+closed-limits Two limit intermediate wider other h due by =
+    let next = intermediate + 1 in
+    and-from (within 1 6 next) (widened (limit + wider) next) (next-within intermediate due)
     (any-of-three (widenedFrom 8 limit intermediate) (widenedFrom 6 limit intermediate) (widenedFrom 4 limit intermediate) (widenedFrom 8 (limit + wider) next) (widenedFrom 6 (limit + wider) next) (widenedFrom 4 (limit + wider) next)
     (from-wider 8 limit intermediate wider by) (from-wider 6 limit intermediate wider by) (from-wider 4 limit intermediate wider by)
     (and-parts (within 1 6 intermediate) (widened limit intermediate) h .1))
+closed-limits Three limit intermediate wider other h due by = absurd (other refl)
 
 -- what the code asks of a sheet, so that its numbers fit
 pub record Bounds (s : Sheet) : Type 0 where
@@ -209,6 +234,10 @@ grade-fresh One terms volume = earned-fresh terms volume
 grade-fresh Two terms volume = earned-fresh terms volume
 grade-fresh Three terms volume = refl
 
+first-begins : (start : Option Date) → begins start 1 ≡ true
+first-begins None = refl
+first-begins (Some start) = refl
+
 ended-sound : (terms : Terms) (s : Sheet) (start : Option Date) → fits terms ≡ true → IsPrice (s .reference) → s .volume ≤ s .turnover → s .turnover ≤ 1000000000 * s .volume → Sound terms (ended terms s start)
 ended-sound terms s start fits price cheap dear =
     record {
@@ -221,6 +250,7 @@ ended-sound terms s start fits price cheap dear =
         price = averaged-price s price cheap dear;
       };
       limits = grade-fresh (s .gate) terms (s .volume);
+      begins = first-begins start;
     }
 
 -- a trade added: each share cost a price
@@ -231,15 +261,16 @@ record Traded (volume turnover : ℕ) : Type 0 where
 traded : (s : Sheet) (trade : Option Trade) → s .volume ≤ s .turnover → s .turnover ≤ 1000000000 * s .volume → Traded (s .volume + sharesOf trade) (s .turnover + turnoverOf trade)
 traded s None cheap dear = record { cheapest = omega arith; dearest = omega arith }
 traded s (Some trade) cheap dear =
-    let one = mul-le-mul-right (trade .shares) (trade .low) in
-    let most = mul-le-mul-right (trade .shares) (trade .high) in
+    let price = is-price (trade .price) (trade .valid) in
+    let one = mul-le-mul-right (trade .shares) (price .0) in
+    let most = mul-le-mul-right (trade .shares) (price .1) in
     record { cheapest = omega arith; dearest = omega arith }
 
 posted-sound : (terms : Terms) (s : Sheet) (trade : Option Trade) → Sound terms s → Sound terms (settled terms (added s trade))
 posted-sound terms s trade sound =
     let sums = sound .sums in
     let all = traded s trade (sums .cheapest) (sums .dearest) in
-    cond-both (reached terms (referenceIn (s .gate) terms) (s .volume + sharesOf trade)) (ended terms (added s trade) None) (added s trade) (Sound terms)
+    cond-both (isOver terms (added s trade)) (ended terms (added s trade) None) (added s trade) (Sound terms)
     (λ e. ended-sound terms (added s trade) None (sound .fits) (sums .price) (all .cheapest) (all .dearest))
     (λ e.
     record {
@@ -252,10 +283,19 @@ posted-sound terms s trade sound =
         price = sums .price;
       };
       limits = sound .limits;
+      begins = sound .begins;
     })
 
-closed-sound : (terms : Terms) (s : Sheet) → Sound terms s → s .intermediate < 6 → ((limit intermediate : ℕ) → limits (s .gate) limit intermediate ≡ (within 1 6 intermediate && widened limit intermediate)) → Sound terms (closed terms s)
-closed-sound terms s sound due shape =
+runs-begins : (start : Option Date) (intermediate : ℕ) → isSome start ≡ true → begins start intermediate ≡ true
+runs-begins None intermediate h = absurd (false≢true h)
+runs-begins (Some start) intermediate h = refl
+
+rests-begins : (start : Option Date) (intermediate : ℕ) → isSome start ≡ false → begins start intermediate ≡ true → intermediate ≡ 1
+rests-begins None intermediate h at = eqb-true intermediate 1 at
+rests-begins (Some start) intermediate h at = absurd (true≢false h)
+
+closed-sound : (terms : Terms) (s : Sheet) → Sound terms s → (s .gate ≡ Three → ⊥) → isSome (s .start) ≡ true → s .intermediate < 6 → Sound terms (closed terms s)
+closed-sound terms s sound other runs due =
     let sums = sound .sums in
     let wider = cond {A = ℕ} (reached terms (minimumIn (s .gate) terms) (s .recent)) 0 4 in
     let by = cond-both {A = ℕ} (reached terms (minimumIn (s .gate) terms) (s .recent)) 0 4 (λ (n : ℕ). (n ≡ 0) ⊎ (n ≡ 4)) (λ e. inl refl) (λ e. inr refl) in
@@ -268,25 +308,28 @@ closed-sound terms s sound due shape =
         part = omega arith;
         price = sums .price;
       };
-      limits = shape (s .limit + wider) (s .intermediate + 1) ∙ closed-limits (s .limit) (s .intermediate) wider (sym (shape (s .limit) (s .intermediate)) ∙ sound .limits) due by;
+      limits = closed-limits (s .gate) (s .limit) (s .intermediate) wider other (sound .limits) due by;
+      begins = runs-begins (s .start) (s .intermediate + 1) runs;
     }
 
-close-sound : (gate : Gate) (terms : Terms) (s : Sheet) → s .gate ≡ gate → Sound terms s → s .intermediate < 6 → Sound terms (nextIn gate IntermediateClose terms s)
-close-sound One terms s is sound due = closed-sound terms s sound due (λ limit intermediate. ap (λ g. limits g limit intermediate) is)
-close-sound Two terms s is sound due = closed-sound terms s sound due (λ limit intermediate. ap (λ g. limits g limit intermediate) is)
-close-sound Three terms s is sound due = sound
+close-sound : (gate : Gate) (terms : Terms) (s : Sheet) → s .gate ≡ gate → Sound terms s → isSome (s .start) ≡ true → s .intermediate < 6 → Sound terms (nextIn gate IntermediateClose terms s)
+close-sound One terms s is sound runs due = closed-sound terms s sound (λ e. one≢three (sym is ∙ e)) runs due
+close-sound Two terms s is sound runs due = closed-sound terms s sound (λ e. two≢three (sym is ∙ e)) runs due
+close-sound Three terms s is sound runs due = sound
 
 next-keeps : (terms : Terms) (s : Sheet) (event : Event) → Sound terms s → Due s event → Sound terms (next terms s event)
 next-keeps terms s (Opening date) sound due =
+    let at = rests-begins (s .start) (s .intermediate) due (sound .begins) in
     record {
       fits = sound .fits;
       sums = sound .sums;
-      limits = sym (ap (λ n. limits (s .gate) (s .limit) n) due) ∙ sound .limits;
+      limits = sym (ap (λ n. limits (s .gate) (s .limit) n) at) ∙ sound .limits;
+      begins = refl;
     }
 next-keeps terms s (TimeEnd date) sound due =
     let sums = sound .sums in
     ended-sound terms s (Some date) (sound .fits) (sums .price) (sums .cheapest) (sums .dearest)
-next-keeps terms s IntermediateClose sound due = close-sound (s .gate) terms s refl sound due
+next-keeps terms s IntermediateClose sound due = close-sound (s .gate) terms s refl sound (due .0) (due .1)
 next-keeps terms s (Posting trade) sound due = posted-sound terms s trade sound
 
 -- every event leaves a sound sheet sound
@@ -315,6 +358,7 @@ founded-sound f on-terms on-sheet =
         price = (leb-true 1 (f .reference) (ends .0), leb-true (f .reference) 1000000000 (ends .1));
       };
       limits = eight (founded f .gate);
+      begins = refl;
     })
 
 -- outside Gate 3 no shares do not reach the minimum

@@ -18,8 +18,7 @@ use Rattle.sheet.specs.declared.thresholds.Terms.{Terms}
 use Rattle.sheet.specs.declared.sheet.Sheet.{Sheet}
 use Rattle.sheet.specs.declared.event.Event.{Event}
 use Rattle.sheet.specs.declared.event.Event.the-variants.{Opening, TimeEnd, IntermediateClose, Posting}
-use Rattle.sheet.specs.Thresholds.{referenceIn, reached}
-use Rattle.sheet.specs.Sheets.{average, ended, added, nextIn, next, after}
+use Rattle.sheet.specs.Sheets.{average, ended, added, nextIn, next, after, isOver}
 use Rattle.sheet.specs.Periods.{ends, endsIn, sharesIn, traded, PricedIn, Priced}
 use Rattle.sheet.specs.Laws.{Average-between, Empty-keeps}
 use Rattle.sheet.proofs.Averages.{average-between}
@@ -47,7 +46,7 @@ adds terms s (Opening date) h = record { volume = omega arith; turnover = omega 
 adds terms s (TimeEnd date) h = absurd (true≢false h)
 adds terms s IntermediateClose h = close-adds (s .gate) terms s
 adds terms s (Posting trade) h =
-    let e = cond-false (reached terms (referenceIn (s .gate) terms) (s .volume + sharesOf trade)) (ended terms (added s trade) None) (added s trade) h in
+    let e = cond-false (isOver terms (added s trade)) (ended terms (added s trade) None) (added s trade) h in
     record {
       volume = ap (λ (t : Sheet). t .volume) e;
       turnover = ap (λ (t : Sheet). t .turnover) e;
@@ -63,7 +62,7 @@ averages terms s (TimeEnd date) h =
     λ i. cond (eqb (v i) 0) (s .reference) (average (t i) (v i))
 averages terms s IntermediateClose h = absurd (false≢true h)
 averages terms s (Posting trade) h =
-    ap (λ (t : Sheet). t .reference) (cond-true (reached terms (referenceIn (s .gate) terms) (s .volume + sharesOf trade)) (ended terms (added s trade) None) (added s trade) h)
+    ap (λ (t : Sheet). t .reference) (cond-true (isOver terms (added s trade)) (ended terms (added s trade) None) (added s trade) h)
 
 -- trades from low to high keep the turnover between so much a share
 record Bounded (low high : ℕ) (volume turnover : ℕ) : Type 0 where
@@ -109,7 +108,7 @@ run-bounded terms s (e ∷ es) low high h priced b =
     run-bounded terms (next terms s e) es low high (parts .1) (priced .1) (rw (one .volume, one .turnover) all)
 
 -- an event more
-after-last : (terms : Terms) (s : Sheet) (es : List Event) (last : Event) → after terms s (es ++ last ∷ []) ≡ next terms (after terms s es) last
+pub after-last : (terms : Terms) (s : Sheet) (es : List Event) (last : Event) → after terms s (es ++ last ∷ []) ≡ next terms (after terms s es) last
 after-last terms s [] last = refl
 after-last terms s (e ∷ es) last = after-last terms (next terms s e) es last
 

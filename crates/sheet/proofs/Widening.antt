@@ -1,31 +1,70 @@
 -- How far openings widen the limit. Assumes nothing.
 use mathlib.Core.Path.{_≡_, refl, sym, ap, _∙_}
+use mathlib.Core.List.{List, [], _∷_}
 use mathlib.Core.Bool.{Bool, true, false, cond}
 use Prim.Native.Nat.{ℕ, zero, suc, _+_, _-_, _*_, _/_, _<_}
 use native.Mathlib.Omega.{arith}
-use Rattle.std.proofs.shelf.Tests.{cond-true, cond-false}
+use Rattle.std.specs.declared.option.Option.the-variants.{None}
+use Rattle.std.proofs.shelf.Tests.{cond-true, cond-false, and-parts, le-leb, not-true, false≢true}
 use Rattle.terms.specs.Dates.{wholeMonths}
 use Rattle.sheet.specs.declared.gate.Gate.{Gate}
 use Rattle.sheet.specs.declared.gate.Gate.the-variants.{One, Two, Three}
 use Rattle.sheet.specs.declared.thresholds.Terms.{Terms}
 use Rattle.sheet.specs.declared.sheet.Sheet.{Sheet}
-use Rattle.sheet.specs.declared.event.Event.the-variants.{IntermediateClose}
+use Rattle.sheet.specs.declared.event.Event.{Event}
+use Rattle.sheet.specs.declared.event.Event.the-variants.{Opening, TimeEnd, IntermediateClose, Posting}
 use Rattle.sheet.specs.Gates.{lasts}
 use Rattle.sheet.specs.Thresholds.{minimumIn, reached}
-use Rattle.sheet.specs.Sheets.{closed, nextIn}
+use Rattle.sheet.specs.Sheets.{ended, added, isOver, closed, nextIn, next, after}
+use Rattle.sheet.specs.Periods.{sharesIn, traded, quiet, quietIn}
 use Rattle.sheet.specs.Sounds.{fits, isSound}
-use Rattle.sheet.specs.Laws.{Enough-keeps, widenings, Widens-once}
+use Rattle.sheet.specs.Laws.{Too-few-widen, widenings, Widens-once}
 use Rattle.sheet.proofs.Closing.{closes, close-is, one≢three, two≢three}
 use Rattle.sheet.proofs.Keeping.{no-minimum, first-only, sound-fits}
+use Rattle.sheet.proofs.Summing.{after-last}
 use Rattle.sheet.proofs.Opening.{opened-early}
 
-enough-in : (gate : Gate) (terms : Terms) (s : Sheet) → reached terms (minimumIn (s .gate) terms) (s .recent) ≡ true → nextIn gate IntermediateClose terms s .limit ≡ s .limit
-enough-in One terms s enough = let e = cond-true {A = ℕ} (reached terms (minimumIn (s .gate) terms) (s .recent)) 0 4 enough in omega (arith, e)
-enough-in Two terms s enough = let e = cond-true {A = ℕ} (reached terms (minimumIn (s .gate) terms) (s .recent)) 0 4 enough in omega (arith, e)
-enough-in Three terms s enough = refl
+-- events that neither end the period nor close an intermediate period
+record Quiet (s t : Sheet) (shares : ℕ) : Type 0 where
+  gate : t .gate ≡ s .gate
+  limit : t .limit ≡ s .limit
+  recent : t .recent ≡ s .recent + shares
 
-pub enough-keeps : Enough-keeps
-enough-keeps terms s enough = enough-in (s .gate) terms s enough
+quiet-event : (terms : Terms) (s : Sheet) (e : Event) → quiet terms s e ≡ true → Quiet s (next terms s e) (sharesIn e)
+quiet-event terms s (Opening date) h = record { gate = refl; limit = refl; recent = omega arith }
+quiet-event terms s (TimeEnd date) h = absurd (false≢true h)
+quiet-event terms s IntermediateClose h = absurd (false≢true h)
+quiet-event terms s (Posting trade) h =
+    let e = cond-false (isOver terms (added s trade)) (ended terms (added s trade) None) (added s trade) (not-true (isOver terms (added s trade)) h) in
+    record {
+      gate = ap (λ (t : Sheet). t .gate) e;
+      limit = ap (λ (t : Sheet). t .limit) e;
+      recent = ap (λ (t : Sheet). t .recent) e;
+    }
+
+quiet-run : (terms : Terms) (s : Sheet) (es : List Event) → quietIn terms s es ≡ true → Quiet s (after terms s es) (traded es)
+quiet-run terms s [] h = record { gate = refl; limit = refl; recent = omega arith }
+quiet-run terms s (e ∷ es) h =
+    let parts = and-parts (quiet terms s e) (quietIn terms (next terms s e) es) h in
+    let one = quiet-event terms s e (parts .0) in
+    let more = quiet-run terms (next terms s e) es (parts .1) in
+    record { gate = more .gate ∙ one .gate; limit = more .limit ∙ one .limit; recent = omega (arith, one .recent, more .recent) }
+
+-- a close, whatever the gate: Gate 3 has a minimum of 0
+close-limit : (gate : Gate) (terms : Terms) (s : Sheet) → s .gate ≡ gate → nextIn gate IntermediateClose terms s .limit ≡ s .limit + cond (reached terms (minimumIn (s .gate) terms) (s .recent)) 0 4
+close-limit One terms s is = refl
+close-limit Two terms s is = refl
+close-limit Three terms s is =
+    let none = ap (λ g. reached terms (minimumIn g terms) (s .recent)) is ∙ le-leb (0 * terms .circulation) (100000 * s .recent) (omega arith) in
+    let e = cond-true {A = ℕ} (reached terms (minimumIn (s .gate) terms) (s .recent)) 0 4 none in
+    omega (arith, e)
+
+pub too-few-widen : Too-few-widen
+too-few-widen terms s es none h =
+    let t = after terms s es in
+    let ran = quiet-run terms s es h in
+    let counted : after terms s es .recent ≡ traded es = omega (arith, ran .recent) in
+    ap (λ (u : Sheet). u .limit) (after-last terms s es IntermediateClose) ∙ close-limit (t .gate) terms t refl ∙ (λ i. ran .limit i + cond (reached terms (minimumIn (ran .gate i) terms) (counted i)) 0 4)
 
 -- an intermediate period without shares widens
 skipped : (terms : Terms) (s : Sheet) (n : ℕ) → reached terms (minimumIn (s .gate) terms) (s .recent) ≡ false → widenings terms s n ≡ n

@@ -2,7 +2,7 @@
 use mathlib.Core.Path.{_≡_}
 use mathlib.Core.Bool.{true, cond}
 use mathlib.Core.List.{List, [], _∷_, _++_}
-use Prim.Native.Nat.{ℕ, zero, suc, _+_, _-_, _*_, _/_, _≤_, _<_}
+use Prim.Native.Nat.{ℕ, zero, suc, _+_, _-_, _*_, _≤_, _<_}
 use Rattle.std.specs.declared.option.Option.the-variants.{Some}
 use Rattle.std.specs.shelf.Lists.{All}
 use Rattle.terms.specs.declared.date.Date.{Date}
@@ -15,9 +15,9 @@ use Rattle.sheet.specs.declared.event.Event.{Event}
 use Rattle.sheet.specs.declared.event.Event.the-variants.{IntermediateClose}
 use Rattle.sheet.specs.Gates.{lasts}
 use Rattle.sheet.specs.Thresholds.{minimumIn, reached}
-use Rattle.sheet.specs.Sheets.{average, next, after, opened}
+use Rattle.sheet.specs.Sheets.{average, next, after, intermediateAt, opened}
 use Rattle.sheet.specs.Sounds.{isSound, Due}
-use Rattle.sheet.specs.Periods.{Period, traded, Priced, openings, ascendTo}
+use Rattle.sheet.specs.Periods.{Period, traded, quietIn, Priced, openings, ascendTo}
 
 -- no whole number is nearer to turnover ÷ shares than the average, and one as near is not higher
 abbrev pub Nearest-average : Type 0
@@ -34,24 +34,24 @@ abbrev pub Empty-keeps : Type 0
 Empty-keeps =
     (terms : Terms) (s : Sheet) (events : List Event) (last : Event) → Period terms s events last → traded (events ++ last ∷ []) ≡ 0 → after terms s (events ++ last ∷ []) .reference ≡ s .reference
 
--- enough shares in an intermediate period leave the limit as it is
-abbrev pub Enough-keeps : Type 0
-Enough-keeps = (terms : Terms) (s : Sheet) → reached terms (minimumIn (s .gate) terms) (s .recent) ≡ true → next terms s IntermediateClose .limit ≡ s .limit
+-- an intermediate period, from its first event to its close, widens the limit by 4 if the shares traded in it miss the minimum, and otherwise not at all
+abbrev pub Too-few-widen : Type 0
+Too-few-widen =
+    (terms : Terms) (s : Sheet) (events : List Event) → s .recent ≡ 0 → quietIn terms s events ≡ true → after terms s (events ++ IntermediateClose ∷ []) .limit ≡ s .limit + cond (reached terms (minimumIn (s .gate) terms) (traded events)) 0 4
 
 -- of n intermediate periods closed at once, those that widen: the first if its shares are too few, and each that was skipped
 abbrev pub widenings : Terms → Sheet → ℕ → ℕ
 widenings terms s zero = 0
 widenings terms s (suc n) = cond (reached terms (minimumIn (s .gate) terms) (s .recent)) 0 1 + n
 
--- an opening within a period closes the intermediate periods up to its date's, and each of them that widens does so by 4
+-- an opening within a period closes the intermediate periods before its date's, and each of them that widens does so by 4
 abbrev pub Widens-once : Type 0
 Widens-once =
-    (terms : Terms) (s : Sheet) (start date : Date) → isSound terms s ≡ true → s .start ≡ Some start → wholeMonths (start .number) (date .number) < lasts (s .gate) → opened terms s date .limit ≡ s .limit + 4 * widenings terms s (wholeMonths (start .number) (date .number) / 2 + 1 - s .intermediate)
+    (terms : Terms) (s : Sheet) (start date : Date) → isSound terms s ≡ true → s .start ≡ Some start → wholeMonths (start .number) (date .number) < lasts (s .gate) → opened terms s date .limit ≡ s .limit + 4 * widenings terms s (intermediateAt (wholeMonths (start .number) (date .number)) - s .intermediate)
 
--- an opening goes by the sheet and the date, under the float, the choice and the circulation that thresholds are reckoned from; no other term counts
+-- an opening goes by the sheet and the date, under the float and the circulation that thresholds are reckoned from; no other term counts
 abbrev pub Sheet-and-date : Type 0
-Sheet-and-date =
-    (a b : Terms) (s : Sheet) (date : Date) → a .float ≡ b .float → a .choice ≡ b .choice → a .circulation ≡ b .circulation → opened a s date ≡ opened b s date
+Sheet-and-date = (a b : Terms) (s : Sheet) (date : Date) → a .float ≡ b .float → a .circulation ≡ b .circulation → opened a s date ≡ opened b s date
 
 -- within a period, openings on several dates with nothing posted in between come to the opening on the last
 abbrev pub One-or-several : Type 0

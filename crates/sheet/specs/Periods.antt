@@ -1,6 +1,6 @@
 -- A period as the list of its events. Assumes nothing.
 use mathlib.Core.Path.{_≡_}
-use mathlib.Core.Bool.{Bool, true, false, _&&_, _||_}
+use mathlib.Core.Bool.{Bool, true, false, not, _&&_, _||_}
 use mathlib.Core.List.{List, [], _∷_}
 use Prim.Native.Nat.{ℕ, _+_, _≤_}
 use lib.Dec.{leb}
@@ -13,15 +13,14 @@ use Rattle.sheet.specs.declared.thresholds.Terms.{Terms}
 use Rattle.sheet.specs.declared.sheet.Sheet.{Sheet}
 use Rattle.sheet.specs.declared.event.Event.{Event}
 use Rattle.sheet.specs.declared.event.Event.the-variants.{Opening, TimeEnd, IntermediateClose, Posting}
-use Rattle.sheet.specs.Thresholds.{referenceIn, reached}
-use Rattle.sheet.specs.Sheets.{next, after, opened}
+use Rattle.sheet.specs.Sheets.{added, isOver, next, after, opened}
 
 -- whether an event ends the period
 abbrev pub ends : Terms → Sheet → Event → Bool
 ends terms s (Opening date) = false
 ends terms s (TimeEnd date) = true
 ends terms s IntermediateClose = false
-ends terms s (Posting trade) = reached terms (referenceIn (s .gate) terms) (s .volume + sharesOf trade)
+ends terms s (Posting trade) = isOver terms (added s trade)
 
 -- whether one of some events does
 abbrev pub endsIn : Terms → Sheet → List Event → Bool
@@ -45,6 +44,17 @@ sharesIn (Posting trade) = sharesOf trade
 abbrev pub traded : List Event → ℕ
 traded [] = 0
 traded (e ∷ es) = sharesIn e + traded es
+
+-- whether an event neither ends the period nor closes an intermediate period
+abbrev pub quiet : Terms → Sheet → Event → Bool
+quiet terms s (Opening date) = true
+quiet terms s (TimeEnd date) = false
+quiet terms s IntermediateClose = false
+quiet terms s (Posting trade) = not (isOver terms (added s trade))
+
+abbrev pub quietIn : Terms → Sheet → List Event → Bool
+quietIn terms s [] = true
+quietIn terms s (e ∷ es) = quiet terms s e && quietIn terms (next terms s e) es
 
 -- what was traded, if anything, was from low to high
 abbrev pub PricedIn : ℕ → ℕ → Option Trade → Type 0

@@ -1,5 +1,5 @@
 -- The period sheet: what becomes of it. Assumes nothing.
-use mathlib.Core.Bool.{cond}
+use mathlib.Core.Bool.{Bool, cond}
 use mathlib.Core.List.{List, [], _∷_}
 use Prim.Native.Nat.{ℕ, _+_, _-_, _*_, _/_}
 use lib.Dec.{eqb, leb}
@@ -98,9 +98,13 @@ added s trade =
       recent = s .recent + sharesOf trade;
     }
 
--- the period ends once its shares reach the reference threshold
+-- the shares traded reach the reference threshold
+abbrev pub isOver : Terms → Sheet → Bool
+isOver terms s = reached terms (referenceIn (s .gate) terms) (s .volume)
+
+-- which ends the period
 abbrev pub settled : Terms → Sheet → Sheet
-settled terms s = cond (reached terms (referenceIn (s .gate) terms) (s .volume)) (ended terms s None) s
+settled terms s = cond (isOver terms s) (ended terms s None) s
 
 -- gate and event decide
 abbrev pub nextIn : Gate → Event → Terms → Sheet → Sheet
@@ -119,9 +123,13 @@ abbrev pub after : Terms → Sheet → List Event → Sheet
 after terms s [] = s
 after terms s (e ∷ es) = after terms (next terms s e) es
 
--- the events that an opening brings, with m whole months since the start: the period has lasted its time, or intermediate periods close up to the one after m ÷ 2
+-- the intermediate period of a date that is m whole months after the start
+abbrev pub intermediateAt : ℕ → ℕ
+intermediateAt m = m / 2 + 1
+
+-- the events that an opening brings then: the period has lasted its time, or each intermediate period before that one closes
 abbrev pub eventsAfter : ℕ → Sheet → Date → List Event
-eventsAfter m s date = cond (leb (lasts (s .gate)) m) (TimeEnd date ∷ []) (replicate (m / 2 + 1 - s .intermediate) IntermediateClose)
+eventsAfter m s date = cond (leb (lasts (s .gate)) m) (TimeEnd date ∷ []) (replicate (intermediateAt m - s .intermediate) IntermediateClose)
 
 abbrev pub eventsFrom : Option Date → Sheet → Date → List Event
 eventsFrom None s date = Opening date ∷ []

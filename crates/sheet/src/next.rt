@@ -2,9 +2,10 @@ ghost use mathlib.Core.Path.{_≡_};
 ghost use mathlib.Core.Bool.{true};
 ghost use Prim.Native.Nat.{_*_, _-_, _<_, _≤_};
 ghost use lib.ListN.{replicate};
+ghost use Rattle.std.specs.Options.{isSome};
 ghost use Rattle.sheet.specs.Sheets.{added, after, average, closed, ended, gradeAfter, next, opened, posted, settled};
 ghost use Rattle.sheet.specs.declared.event.Event.the-variants.{IntermediateClose};
-ghost use Rattle.sheet.specs.Sounds.{Begins, Due, isSound};
+ghost use Rattle.sheet.specs.Sounds.{Due, isSound};
 use super::event::Event;
 use super::gate::Gate;
 use super::sheet::Sheet;
@@ -47,8 +48,7 @@ fn grade_after(gate: Gate, terms: Terms, volume: u64) -> (Gate, u32)
 impl Sheet {
     // The sheet after an opening on a date.
     pub(crate) fn opened(self, terms: Terms, date: Date) -> Sheet
-        requires sound { ⌜ isSound terms self ≡ true ⌝ }
-        requires begins { ⌜ Begins (self .start) (self .intermediate) ⌝ }
+        requires { ⌜ isSound terms self ≡ true ⌝ }
         ensures opened { λ r. ⌜ r ≡ opened terms self date ⌝ }
         ensures sound { λ r. ⌜ isSound terms r ≡ true ⌝ }
     {
@@ -77,6 +77,7 @@ impl Sheet {
     // The sheet after the close of each intermediate period before the one given.
     fn closed_before(self, terms: Terms, intermediate: u32) -> Sheet
         requires sound { ⌜ isSound terms self ≡ true ⌝ }
+        requires runs { ⌜ isSome (self .start) ≡ true ⌝ }
         requires last { ⌜ intermediate ≤ 6 ⌝ }
         ensures closes { λ r. ⌜ r ≡ after terms self (replicate (intermediate - self .intermediate) IntermediateClose) ⌝ }
         ensures sound { λ r. ⌜ isSound terms r ≡ true ⌝ }

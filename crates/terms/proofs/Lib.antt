@@ -1,1 +1,2 @@
+pub mod Pricing
 pub mod Months

@@ -1,6 +1,6 @@
 ghost use mathlib.Core.Path.{_≡_};
 ghost use mathlib.Core.Bool.{true, false};
-ghost use Prim.Native.Nat.{_*_, _<_, _≤_};
+ghost use Prim.Native.Nat.{_*_};
 ghost use Rattle.std.specs.Options.{Cases};
 ghost use Rattle.terms.specs.Prices.{isPrice};
 use super::price::is_price;
@@ -10,8 +10,7 @@ use super::price::is_price;
 pub struct Trade {
     price: u32,
     shares: u32,
-    ghost low: { 0 < price },
-    ghost high: { price ≤ 1000000000 },
+    ghost valid: { isPrice price ≡ true },
 }
 
 impl Trade {

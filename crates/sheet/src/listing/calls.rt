@@ -10,6 +10,7 @@ ghost use Rattle.sheet.specs.Sheets.{opened, posted};
 ghost use Rattle.sheet.specs.Sounds.{isLater};
 use super::Listing;
 use crate::founding::FoundingSheet;
+use crate::sheet::Sheet;
 use terms::Date;
 use terms::Refusal;
 use terms::Trade;
@@ -38,12 +39,21 @@ impl Listing {
         })
     }
 
+    // The sheet, with the bounds that follow from its soundness.
+    fn bounded(&self) -> Sheet
+        ensures value { λ r. ⌜ r ≡ now (self .entry) .sheet ⌝ }
+        ensures price { λ r. ⌜ isPrice (r .reference) ≡ true ⌝ }
+        ensures most { λ r. ⌜ r .limit ≤ 28 ⌝ }
+    {
+        self.sheet
+    }
+
     /// The Reference Price.
     pub fn reference(&self) -> u32
         ensures value { λ r. ⌜ r ≡ now (self .entry) .sheet .reference ⌝ }
         ensures price { λ r. ⌜ isPrice r ≡ true ⌝ }
     {
-        self.sheet.reference
+        self.bounded().reference
     }
 
     /// Limit 1 in percent.
@@ -51,7 +61,7 @@ impl Listing {
         ensures value { λ r. ⌜ r ≡ now (self .entry) .sheet .limit ⌝ }
         ensures most { λ r. ⌜ r ≤ 28 ⌝ }
     {
-        self.sheet.limit
+        self.bounded().limit
     }
 
     /// Limit 2 in percent: Limit 1, unless the cap is narrower.

@@ -1,6 +1,6 @@
 use Rattle.sheet.proofs.Averages.{nearest-average}
 use Rattle.sheet.proofs.Summing.{average-of-period, empty-keeps}
-use Rattle.sheet.proofs.Widening.{enough-keeps, widens-once}
+use Rattle.sheet.proofs.Widening.{too-few-widen, widens-once}
 use Rattle.sheet.proofs.Deciding.{sheet-and-date}
 use Rattle.sheet.proofs.Stepping.{one-or-several}
 use Rattle.sheet.proofs.Keeping.{next-sound, at-most-28}
@@ -12,7 +12,7 @@ returns c =
       nearest = nearest-average;
       between = average-of-period;
       empty = empty-keeps;
-      enough = enough-keeps;
+      few = too-few-widen;
       once = widens-once;
       decided = sheet-and-date;
       several = one-or-several;

@@ -4,13 +4,8 @@ use mathlib.Core.Bool.{true}
 use Rattle.std.specs.declared.option.Option.the-variants.{Some}
 use Rattle.sheet.specs.declared.sheet.Sheet.{Sheet}
 use Rattle.sheet.specs.Sounds.{isCurrent, isLater}
-use Rattle.sheet.proofs.Dating.{begins, opened-current}
+use Rattle.sheet.proofs.Dating.{opened-current}
 use Rattle.sheet.proofs.listing.Listing.open.Needs as need
-
-pub opened-self-requires : need.opened-self-requires
-opened-self-requires c κs =
-    let at = c .args .self .now in
-    record { sound = at .sound; begins = begins (at .sheet) (at .last) (at .current) }
 
 pub ghost-self : need.ghost-self
 ghost-self c =
