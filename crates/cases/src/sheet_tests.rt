@@ -94,6 +94,39 @@ fn intermediate_periods_widen_the_limit() -> Result<(), Fail> {
     check_eq(anew.limit, 8)
 }
 
+// What a sheet says, in the order of the example in docs/RULES.md.
+fn check_line(sheet: Sheet, gate: Gate, numbers: [u64; 5]) -> Result<(), Fail> {
+    check_eq(sheet.gate, gate)?;
+    check_eq(
+        [
+            u64::from(sheet.limit),
+            u64::from(sheet.reference),
+            sheet.volume,
+            u64::from(sheet.intermediate),
+            sheet.recent,
+        ],
+        numbers,
+    )
+}
+
+#[test]
+fn the_example_of_the_rules() -> Result<(), Fail> {
+    let mut listing = started(bank())?;
+    check_line(listing.sheet(), Gate::One, [8, 100_000, 0, 1, 0])?;
+    listing.post(Trade::new(100_000, 999));
+    check_line(listing.sheet(), Gate::One, [8, 100_000, 999, 1, 999])?;
+    listing.open(Date::new(20240308)?)?;
+    check_line(listing.sheet(), Gate::One, [12, 100_000, 999, 2, 0])?;
+    listing.post(Trade::new(101_000, 1_000));
+    check_line(listing.sheet(), Gate::One, [12, 100_000, 1_999, 2, 1_000])?;
+    listing.open(Date::new(20240510)?)?;
+    check_line(listing.sheet(), Gate::One, [12, 100_000, 1_999, 3, 0])?;
+    listing.post(Trade::new(102_000, 8_001));
+    check_line(listing.sheet(), Gate::Two, [6, 101_700, 0, 1, 0])?;
+    listing.open(Date::new(20240517)?)?;
+    check_line(listing.sheet(), Gate::Two, [6, 101_700, 0, 1, 0])
+}
+
 #[test]
 fn gate_3_stays() -> Result<(), Fail> {
     let third = FoundingSheet { gate: 3, ..bank() };
@@ -174,7 +207,7 @@ fn founding_values_out_of_range_are_refused() -> Result<(), Fail> {
 }
 
 #[test]
-fn days_that_do_not_exist_are_refused() -> Result<(), Fail> {
+fn numbers_that_are_no_date_are_refused() -> Result<(), Fail> {
     for day in [20240229, 20000229, 20000101, 20991231] {
         check(Date::new(day).is_ok())?;
     }

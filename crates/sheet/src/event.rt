@@ -8,7 +8,7 @@ pub enum Event {
     Opening(Date),
     /// A call opens and the period has lasted its time: it ends, and the next starts on the date.
     TimeEnd(Date),
-    /// A call opens behind the end of the current intermediate period.
+    /// A call opens after the end of the current intermediate period.
     IntermediateClose,
     /// The outcome of a call is entered: what was traded, if anything was.
     Posting(Option<Trade>),

@@ -36,7 +36,7 @@ impl Gate {
         }
     }
 
-    // How many whole months a period lasts at most.
+    // After how many whole months an opening ends the period.
     pub(crate) fn lasts(self) -> u32
         ensures { λ r. ⌜ r ≡ lasts self ⌝ }
     {

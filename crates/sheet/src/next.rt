@@ -13,7 +13,7 @@ use super::thresholds::Terms;
 use terms::Date;
 use terms::Trade;
 
-// How far a limit widens, in percent.
+// By how much a limit widens, in percentage points.
 const WIDENING: u32 = 4;
 
 // The average price of shares, halves up.
@@ -22,6 +22,14 @@ fn average(turnover: u64, shares: u64) -> u64
     ensures { λ r. ⌜ r ≡ average turnover shares ⌝ }
 {
     (2 * turnover + shares) / (2 * shares)
+}
+
+// What a trade costs, and that no share costs more than a price.
+fn cost(trade: Trade) -> u64
+    ensures value { λ r. ⌜ r ≡ trade .price * trade .shares ⌝ }
+    ensures most { λ r. ⌜ r ≤ 1000000000 * trade .shares ⌝ }
+{
+    trade.turnover()
 }
 
 // The gate and Limit 1 that a period with so many shares leads to.
@@ -125,7 +133,7 @@ impl Sheet {
 
     // The sheet after the close of its intermediate period.
     fn closed(self, terms: Terms) -> Sheet
-        requires { ⌜ self .limit ≤ 28 ⌝ ∗ ⌜ self .intermediate < 6 ⌝ ∗ ⌜ self .recent < 4400000000 ⌝ }
+        requires { ⌜ self .limit ≤ 28 ⌝ ∗ ⌜ self .intermediate < 6 ⌝ ∗ ⌜ self .volume < 30000000 ⌝ ∗ ⌜ self .recent ≤ self .volume ⌝ }
         ensures { λ r. ⌜ r ≡ closed terms self ⌝ }
     {
         let wider = if terms.reached(terms.minimum_in(self.gate), self.recent) {
@@ -153,7 +161,7 @@ impl Sheet {
                 let shares = u64::from(trade.shares());
                 Sheet {
                     volume: self.volume + shares,
-                    turnover: self.turnover + trade.turnover(),
+                    turnover: self.turnover + cost(trade),
                     recent: self.recent + shares,
                     ..self
                 }

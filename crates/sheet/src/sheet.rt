@@ -21,7 +21,7 @@ pub struct Sheet {
     pub volume: u64,
     /// What they cost together.
     pub turnover: u64,
-    /// Which of the two months' stretches of the period this is, from 1 to 6.
+    /// The intermediate period: which two months of the period these are, from 1 to 6.
     pub intermediate: u32,
     /// The shares traded in it.
     pub recent: u64,

@@ -14,7 +14,7 @@ pub closed-requires : need.closed-requires
 closed-requires c κs =
     let b = bounds (c .args .terms) (c .args .self) (c .pre .sound) in
     let due : c .args .self .intermediate < 6 = search needs in
-    (b .limit, (due, omega arith))
+    (b .limit, (due, (b .volume, b .recent)))
 
 pub added-requires : need.added-requires
 added-requires c κs = let b = bounds (c .args .terms) (c .args .self) (c .pre .sound) in (b .volume, (b .recent, b .turnover))
