@@ -2,9 +2,15 @@
 use mathlib.Core.Path.{_≡_}
 use mathlib.Core.Logic.{⊎-elim}
 use Prim.Native.Nat.{ℕ, _+_, _*_, _≤_, _<_}
-use native.Mathlib.Nat.{le-div-iff-mul-le, div-lt-iff-lt-mul, add-mul, mul-left-comm, div-add-mod', mod-lt, mul-le-mul-right}
+use native.Mathlib.Nat.{le-div-iff-mul-le, div-lt-iff-lt-mul, add-mul, mul-left-comm, div-add-mod', mod-lt, mul-le-mul-right, mul-add}
 use native.Mathlib.Omega.{arith}
+use Rattle.std.specs.declared.option.Option.{Option}
+use Rattle.std.specs.declared.option.Option.the-variants.{Some, None}
 use Rattle.std.proofs.shelf.Tests.{cases-lt}
+use Rattle.terms.specs.declared.trade.Trade.{Trade}
+use Rattle.terms.specs.Prices.{within-ends}
+use Rattle.terms.specs.Trades.{sharesOf, turnoverOf}
+use Rattle.sheet.specs.Periods.{PricedIn}
 use Rattle.sheet.specs.Sheets.{average}
 use Rattle.sheet.specs.Laws.{Nearest-average}
 
@@ -47,3 +53,24 @@ nearest-average turnover shares k some =
     (rw same (omega arith), λ e. le))
     (cases-lt (average turnover shares) k))
     (cases-lt k (average turnover shares))
+
+-- trades from low to high keep the turnover between so much a share
+pub record Bounded (low high volume turnover : ℕ) : Type 0 where
+  pub least : low * volume ≤ turnover
+  pub most : turnover ≤ high * volume
+
+pub trade-bounded : (low high volume turnover : ℕ) (trade : Option Trade) → PricedIn low high trade → Bounded low high volume turnover → Bounded low high (volume + sharesOf trade) (turnover + turnoverOf trade)
+trade-bounded low high volume turnover None priced b =
+    record { least = omega (arith, mul-add low volume 0, b .least); most = omega (arith, mul-add high volume 0, b .most) }
+trade-bounded low high volume turnover (Some trade) priced b =
+    let least = mul-le-mul-right (trade .shares) (priced .0) in
+    let most = mul-le-mul-right (trade .shares) (priced .1) in
+    record {
+      least = omega (arith, mul-add low volume (trade .shares), b .least);
+      most = omega (arith, mul-add high volume (trade .shares), b .most);
+    }
+
+-- every trade is at a price
+pub trade-priced : (trade : Option Trade) → PricedIn 1 1000000000 trade
+trade-priced None = tt
+trade-priced (Some trade) = within-ends 1 1000000000 (trade .price) (trade .valid)

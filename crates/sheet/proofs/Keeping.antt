@@ -13,8 +13,7 @@ use Rattle.std.proofs.shelf.Tests.{cond-both, leb-false, lt-leb, eqb-false, and
 use Rattle.std.proofs.shelf.Ways.{tells}
 use Rattle.terms.specs.declared.date.Date.{Date}
 use Rattle.terms.specs.declared.trade.Trade.{Trade}
-use Rattle.terms.specs.Prices.{within, isPrice, IsPrice}
-use Rattle.terms.proofs.Pricing.{is-price}
+use Rattle.terms.specs.Prices.{within, within-ends, isPrice, IsPrice}
 use Rattle.terms.specs.Trades.{sharesOf, turnoverOf}
 use Rattle.sheet.specs.declared.float.Float.{Float}
 use Rattle.sheet.specs.declared.float.Float.the-variants.{AboveQuarter, AtMostQuarter, AtMostTenth}
@@ -30,7 +29,7 @@ use Rattle.sheet.specs.declared.founding.FoundingSheet.{FoundingSheet}
 use Rattle.sheet.specs.Foundings.{termsInRange, sheetInRange, termsOf, founded}
 use Rattle.sheet.specs.Laws.{At-most-28}
 use Rattle.sheet.specs.Sounds.{isChoice, fits, sums, widenedFrom, limits, begins, isSound, Due}
-use Rattle.sheet.proofs.Averages.{average-between}
+use Rattle.sheet.proofs.Averages.{average-between, trade-bounded, trade-priced}
 use Rattle.sheet.proofs.Closing.{one≢three, two≢three}
 
 -- what the test says, as facts
@@ -115,11 +114,12 @@ few terms gate shares fit not-reached =
     let under = leb-false (referenceIn gate terms * terms .circulation) (100000 * shares) not-reached in
     omega (arith, mul-le-mul-right (terms .circulation) (t .most), fit .most)
 
--- and none reach it
+-- and no shares reach none
+unreached : (terms : Terms) (t : ℕ) → Fit terms → 1 ≤ t → reached terms t 0 ≡ false
+unreached terms t fit some = lt-leb (t * terms .circulation) (100000 * 0) (omega (arith, mul-le-mul-right (terms .circulation) some, fit .some))
+
 none : (terms : Terms) (gate : Gate) → Fit terms → reached terms (referenceIn gate terms) 0 ≡ false
-none terms gate fit =
-    let t = threshold terms gate fit in
-    lt-leb (referenceIn gate terms * terms .circulation) (100000 * 0) (omega (arith, mul-le-mul-right (terms .circulation) (t .some), fit .some))
+none terms gate fit = unreached terms (referenceIn gate terms) fit (threshold terms gate fit .some)
 
 -- a widened limit: how wide at most, and as wide or 4 wider in the next intermediate period
 from-most : (first limit intermediate : ℕ) → first ≤ 8 → intermediate ≤ 6 → widenedFrom first limit intermediate ≡ true → limit ≤ 28
@@ -148,7 +148,7 @@ widened-most limit intermediate last h =
 
 -- the two parts of the test outside Gate 3
 six : (intermediate : ℕ) → within 1 6 intermediate ≡ true → intermediate ≤ 6
-six intermediate h = leb-true intermediate 6 (and-parts (leb 1 intermediate) (leb intermediate 6) h .1)
+six intermediate h = within-ends 1 6 intermediate h .1
 
 limit-most : (gate : Gate) (limit intermediate : ℕ) → limits gate limit intermediate ≡ true → limit ≤ 28
 limit-most One limit intermediate h =
@@ -253,32 +253,20 @@ ended-sound terms s start fits price cheap dear =
       begins = first-begins start;
     }
 
--- a trade added: each share cost a price
-record Traded (volume turnover : ℕ) : Type 0 where
-  cheapest : volume ≤ turnover
-  dearest : turnover ≤ 1000000000 * volume
-
-traded : (s : Sheet) (trade : Option Trade) → s .volume ≤ s .turnover → s .turnover ≤ 1000000000 * s .volume → Traded (s .volume + sharesOf trade) (s .turnover + turnoverOf trade)
-traded s None cheap dear = record { cheapest = omega arith; dearest = omega arith }
-traded s (Some trade) cheap dear =
-    let price = is-price (trade .price) (trade .valid) in
-    let one = mul-le-mul-right (trade .shares) (price .0) in
-    let most = mul-le-mul-right (trade .shares) (price .1) in
-    record { cheapest = omega arith; dearest = omega arith }
-
 posted-sound : (terms : Terms) (s : Sheet) (trade : Option Trade) → Sound terms s → Sound terms (settled terms (added s trade))
 posted-sound terms s trade sound =
     let sums = sound .sums in
-    let all = traded s trade (sums .cheapest) (sums .dearest) in
+    let b = trade-bounded 1 1000000000 (s .volume) (s .turnover) trade (trade-priced trade) (record { least = omega arith; most = sums .dearest }) in
+    let cheapest : s .volume + sharesOf trade ≤ s .turnover + turnoverOf trade = omega (arith, b .least) in
     cond-both (isOver terms (added s trade)) (ended terms (added s trade) None) (added s trade) (Sound terms)
-    (λ e. ended-sound terms (added s trade) None (sound .fits) (sums .price) (all .cheapest) (all .dearest))
+    (λ e. ended-sound terms (added s trade) None (sound .fits) (sums .price) cheapest (b .most))
     (λ e.
     record {
       fits = sound .fits;
       sums = record {
         running = e;
-        cheapest = all .cheapest;
-        dearest = all .dearest;
+        cheapest = cheapest;
+        dearest = b .most;
         part = omega arith;
         price = sums .price;
       };
@@ -346,7 +334,6 @@ pub founded-sound : (f : FoundingSheet) → termsInRange f ≡ true → sheetInR
 founded-sound f on-terms on-sheet =
     let fits-all = and-parts (within 1 3 (f .float)) (fits (termsOf f)) on-terms .1 in
     let price = and-parts (within 1 3 (f .gate)) (isPrice (f .reference)) on-sheet .1 in
-    let ends = and-parts (leb 1 (f .reference)) (leb (f .reference) 1000000000) price in
     tested (termsOf f) (founded f)
     (record {
       fits = fits-all;
@@ -355,7 +342,7 @@ founded-sound f on-terms on-sheet =
         cheapest = omega arith;
         dearest = omega arith;
         part = omega arith;
-        price = (leb-true 1 (f .reference) (ends .0), leb-true (f .reference) 1000000000 (ends .1));
+        price = within-ends 1 1000000000 (f .reference) price;
       };
       limits = eight (founded f .gate);
       begins = refl;
@@ -373,9 +360,7 @@ minimum Two terms other = omega arith
 minimum Three terms other = absurd (other refl)
 
 pub no-minimum : (terms : Terms) (gate : Gate) → fits terms ≡ true → (gate ≡ Three → ⊥) → reached terms (minimumIn gate terms) 0 ≡ false
-no-minimum terms gate fits-all other =
-    let some = minimum gate terms other in
-    lt-leb (minimumIn gate terms * terms .circulation) (100000 * 0) (omega (arith, mul-le-mul-right (terms .circulation) some, fit terms fits-all .some))
+no-minimum terms gate fits-all other = unreached terms (minimumIn gate terms) (fit terms fits-all) (minimum gate terms other)
 
 -- Gate 3 is in the first intermediate period, at 8 percent
 record Third (percent at : ℕ) : Type 0 where

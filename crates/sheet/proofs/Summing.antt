@@ -2,16 +2,13 @@
 use mathlib.Core.Path.{_≡_, refl, ap, _∙_}
 use mathlib.Core.Bool.{true, false, cond}
 use mathlib.Core.List.{List, [], _∷_, _++_}
-use Prim.Native.Nat.{ℕ, _+_, _*_, _≤_, _<_}
-use native.Mathlib.Nat.{mul-add, mul-le-mul-right}
+use Prim.Native.Nat.{ℕ, _+_, _<_}
 use native.Mathlib.Omega.{arith}
 use lib.Dec.{eqb}
-use Rattle.std.specs.declared.option.Option.{Option}
-use Rattle.std.specs.declared.option.Option.the-variants.{Some, None}
+use Rattle.std.specs.declared.option.Option.the-variants.{None}
 use Rattle.std.specs.shelf.Lists.{All}
 use Rattle.std.proofs.shelf.Tests.{cond-true, cond-false, eq-eqb, ne-eqb, or-parts, true≢false, false≢true}
-use Rattle.terms.specs.declared.trade.Trade.{Trade}
-use Rattle.terms.specs.Trades.{sharesOf, turnoverOf}
+use Rattle.terms.specs.Trades.{turnoverOf}
 use Rattle.sheet.specs.declared.gate.Gate.{Gate}
 use Rattle.sheet.specs.declared.gate.Gate.the-variants.{One, Two, Three}
 use Rattle.sheet.specs.declared.thresholds.Terms.{Terms}
@@ -19,9 +16,9 @@ use Rattle.sheet.specs.declared.sheet.Sheet.{Sheet}
 use Rattle.sheet.specs.declared.event.Event.{Event}
 use Rattle.sheet.specs.declared.event.Event.the-variants.{Opening, TimeEnd, IntermediateClose, Posting}
 use Rattle.sheet.specs.Sheets.{average, ended, added, nextIn, next, after, isOver}
-use Rattle.sheet.specs.Periods.{ends, endsIn, sharesIn, traded, PricedIn, Priced}
+use Rattle.sheet.specs.Periods.{ends, endsIn, sharesIn, traded, Priced}
 use Rattle.sheet.specs.Laws.{Average-between, Empty-keeps}
-use Rattle.sheet.proofs.Averages.{average-between}
+use Rattle.sheet.proofs.Averages.{Bounded, trade-bounded, average-between}
 
 -- the turnover that an event brings
 abbrev turnoverIn : Event → ℕ
@@ -63,22 +60,6 @@ averages terms s (TimeEnd date) h =
 averages terms s IntermediateClose h = absurd (false≢true h)
 averages terms s (Posting trade) h =
     ap (λ (t : Sheet). t .reference) (cond-true (isOver terms (added s trade)) (ended terms (added s trade) None) (added s trade) h)
-
--- trades from low to high keep the turnover between so much a share
-record Bounded (low high : ℕ) (volume turnover : ℕ) : Type 0 where
-  least : low * volume ≤ turnover
-  most : turnover ≤ high * volume
-
-trade-bounded : (low high volume turnover : ℕ) (trade : Option Trade) → PricedIn low high trade → Bounded low high volume turnover → Bounded low high (volume + sharesOf trade) (turnover + turnoverOf trade)
-trade-bounded low high volume turnover None priced b =
-    record { least = omega (arith, mul-add low volume 0, b .least); most = omega (arith, mul-add high volume 0, b .most) }
-trade-bounded low high volume turnover (Some trade) priced b =
-    let least = mul-le-mul-right (trade .shares) (priced .0) in
-    let most = mul-le-mul-right (trade .shares) (priced .1) in
-    record {
-      least = omega (arith, mul-add low volume (trade .shares), b .least);
-      most = omega (arith, mul-add high volume (trade .shares), b .most);
-    }
 
 event-bounded : (low high volume turnover : ℕ) (e : Event) → Priced low high e → Bounded low high volume turnover → Bounded low high (volume + sharesIn e) (turnover + turnoverIn e)
 event-bounded low high volume turnover (Opening date) priced b = trade-bounded low high volume turnover None tt b

@@ -5,7 +5,7 @@ use mathlib.Core.Bool.{Bool, true, false, cond}
 use Prim.Native.Nat.{ℕ, zero, suc, _+_, _-_, _*_, _/_, _<_}
 use native.Mathlib.Omega.{arith}
 use Rattle.std.specs.declared.option.Option.the-variants.{None}
-use Rattle.std.proofs.shelf.Tests.{cond-true, cond-false, and-parts, le-leb, not-true, false≢true}
+use Rattle.std.proofs.shelf.Tests.{cond-true, cond-false, or-parts, le-leb, true≢false}
 use Rattle.terms.specs.Dates.{wholeMonths}
 use Rattle.sheet.specs.declared.gate.Gate.{Gate}
 use Rattle.sheet.specs.declared.gate.Gate.the-variants.{One, Two, Three}
@@ -16,7 +16,7 @@ use Rattle.sheet.specs.declared.event.Event.the-variants.{Opening, TimeEnd, In
 use Rattle.sheet.specs.Gates.{lasts}
 use Rattle.sheet.specs.Thresholds.{minimumIn, reached}
 use Rattle.sheet.specs.Sheets.{ended, added, isOver, closed, nextIn, next, after}
-use Rattle.sheet.specs.Periods.{sharesIn, traded, quiet, quietIn}
+use Rattle.sheet.specs.Periods.{ends, endsIn, sharesIn, traded, isClose, closesIn}
 use Rattle.sheet.specs.Sounds.{fits, isSound}
 use Rattle.sheet.specs.Laws.{Too-few-widen, widenings, Widens-once}
 use Rattle.sheet.proofs.Closing.{closes, close-is, one≢three, two≢three}
@@ -30,24 +30,25 @@ record Quiet (s t : Sheet) (shares : ℕ) : Type 0 where
   limit : t .limit ≡ s .limit
   recent : t .recent ≡ s .recent + shares
 
-quiet-event : (terms : Terms) (s : Sheet) (e : Event) → quiet terms s e ≡ true → Quiet s (next terms s e) (sharesIn e)
-quiet-event terms s (Opening date) h = record { gate = refl; limit = refl; recent = omega arith }
-quiet-event terms s (TimeEnd date) h = absurd (false≢true h)
-quiet-event terms s IntermediateClose h = absurd (false≢true h)
-quiet-event terms s (Posting trade) h =
-    let e = cond-false (isOver terms (added s trade)) (ended terms (added s trade) None) (added s trade) (not-true (isOver terms (added s trade)) h) in
+quiet-event : (terms : Terms) (s : Sheet) (e : Event) → ends terms s e ≡ false → isClose e ≡ false → Quiet s (next terms s e) (sharesIn e)
+quiet-event terms s (Opening date) runs h = record { gate = refl; limit = refl; recent = omega arith }
+quiet-event terms s (TimeEnd date) runs h = absurd (true≢false runs)
+quiet-event terms s IntermediateClose runs h = absurd (true≢false h)
+quiet-event terms s (Posting trade) runs h =
+    let e = cond-false (isOver terms (added s trade)) (ended terms (added s trade) None) (added s trade) runs in
     record {
       gate = ap (λ (t : Sheet). t .gate) e;
       limit = ap (λ (t : Sheet). t .limit) e;
       recent = ap (λ (t : Sheet). t .recent) e;
     }
 
-quiet-run : (terms : Terms) (s : Sheet) (es : List Event) → quietIn terms s es ≡ true → Quiet s (after terms s es) (traded es)
-quiet-run terms s [] h = record { gate = refl; limit = refl; recent = omega arith }
-quiet-run terms s (e ∷ es) h =
-    let parts = and-parts (quiet terms s e) (quietIn terms (next terms s e) es) h in
-    let one = quiet-event terms s e (parts .0) in
-    let more = quiet-run terms (next terms s e) es (parts .1) in
+quiet-run : (terms : Terms) (s : Sheet) (es : List Event) → endsIn terms s es ≡ false → closesIn es ≡ false → Quiet s (after terms s es) (traded es)
+quiet-run terms s [] runs h = record { gate = refl; limit = refl; recent = omega arith }
+quiet-run terms s (e ∷ es) runs h =
+    let on = or-parts (ends terms s e) (endsIn terms (next terms s e) es) runs in
+    let none = or-parts (isClose e) (closesIn es) h in
+    let one = quiet-event terms s e (on .0) (none .0) in
+    let more = quiet-run terms (next terms s e) es (on .1) (none .1) in
     record { gate = more .gate ∙ one .gate; limit = more .limit ∙ one .limit; recent = omega (arith, one .recent, more .recent) }
 
 -- a close, whatever the gate: Gate 3 has a minimum of 0
@@ -60,9 +61,9 @@ close-limit Three terms s is =
     omega (arith, e)
 
 pub too-few-widen : Too-few-widen
-too-few-widen terms s es none h =
+too-few-widen terms s es none runs h =
     let t = after terms s es in
-    let ran = quiet-run terms s es h in
+    let ran = quiet-run terms s es runs h in
     let counted : after terms s es .recent ≡ traded es = omega (arith, ran .recent) in
     ap (λ (u : Sheet). u .limit) (after-last terms s es IntermediateClose) ∙ close-limit (t .gate) terms t refl ∙ (λ i. ran .limit i + cond (reached terms (minimumIn (ran .gate i) terms) (counted i)) 0 4)
 

@@ -1,6 +1,6 @@
 -- What the definitions of the sheet amount to. Assumes nothing.
 use mathlib.Core.Path.{_≡_}
-use mathlib.Core.Bool.{true, cond}
+use mathlib.Core.Bool.{true, false, cond}
 use mathlib.Core.List.{List, [], _∷_, _++_}
 use Prim.Native.Nat.{ℕ, zero, suc, _+_, _-_, _*_, _≤_, _<_}
 use Rattle.std.specs.declared.option.Option.the-variants.{Some}
@@ -17,7 +17,7 @@ use Rattle.sheet.specs.Gates.{lasts}
 use Rattle.sheet.specs.Thresholds.{minimumIn, reached}
 use Rattle.sheet.specs.Sheets.{average, next, after, intermediateAt, opened}
 use Rattle.sheet.specs.Sounds.{isSound, Due}
-use Rattle.sheet.specs.Periods.{Period, traded, quietIn, Priced, openings, ascendTo}
+use Rattle.sheet.specs.Periods.{endsIn, Period, traded, closesIn, Priced, openings, ascendTo}
 
 -- no whole number is nearer to turnover ÷ shares than the average, and one as near is not higher
 abbrev pub Nearest-average : Type 0
@@ -37,7 +37,7 @@ Empty-keeps =
 -- an intermediate period, from its first event to its close, widens the limit by 4 if the shares traded in it miss the minimum, and otherwise not at all
 abbrev pub Too-few-widen : Type 0
 Too-few-widen =
-    (terms : Terms) (s : Sheet) (events : List Event) → s .recent ≡ 0 → quietIn terms s events ≡ true → after terms s (events ++ IntermediateClose ∷ []) .limit ≡ s .limit + cond (reached terms (minimumIn (s .gate) terms) (traded events)) 0 4
+    (terms : Terms) (s : Sheet) (events : List Event) → s .recent ≡ 0 → endsIn terms s events ≡ false → closesIn events ≡ false → after terms s (events ++ IntermediateClose ∷ []) .limit ≡ s .limit + cond (reached terms (minimumIn (s .gate) terms) (traded events)) 0 4
 
 -- of n intermediate periods closed at once, those that widen: the first if its shares are too few, and each that was skipped
 abbrev pub widenings : Terms → Sheet → ℕ → ℕ

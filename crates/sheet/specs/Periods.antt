@@ -1,6 +1,6 @@
 -- A period as the list of its events. Assumes nothing.
 use mathlib.Core.Path.{_≡_}
-use mathlib.Core.Bool.{Bool, true, false, not, _&&_, _||_}
+use mathlib.Core.Bool.{Bool, true, false, _&&_, _||_}
 use mathlib.Core.List.{List, [], _∷_}
 use Prim.Native.Nat.{ℕ, _+_, _≤_}
 use lib.Dec.{leb}
@@ -45,16 +45,16 @@ abbrev pub traded : List Event → ℕ
 traded [] = 0
 traded (e ∷ es) = sharesIn e + traded es
 
--- whether an event neither ends the period nor closes an intermediate period
-abbrev pub quiet : Terms → Sheet → Event → Bool
-quiet terms s (Opening date) = true
-quiet terms s (TimeEnd date) = false
-quiet terms s IntermediateClose = false
-quiet terms s (Posting trade) = not (isOver terms (added s trade))
+-- whether one of some events closes an intermediate period
+abbrev pub isClose : Event → Bool
+isClose (Opening date) = false
+isClose (TimeEnd date) = false
+isClose IntermediateClose = true
+isClose (Posting trade) = false
 
-abbrev pub quietIn : Terms → Sheet → List Event → Bool
-quietIn terms s [] = true
-quietIn terms s (e ∷ es) = quiet terms s e && quietIn terms (next terms s e) es
+abbrev pub closesIn : List Event → Bool
+closesIn [] = false
+closesIn (e ∷ es) = isClose e || closesIn es
 
 -- what was traded, if anything, was from low to high
 abbrev pub PricedIn : ℕ → ℕ → Option Trade → Type 0

@@ -1,2 +1,1 @@
-pub mod Pricing
 pub mod Months

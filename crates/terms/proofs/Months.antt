@@ -3,11 +3,10 @@ use mathlib.Core.Path.{_≡_, sym, ap, subst}
 use mathlib.Core.Bool.{true, _&&_}
 use mathlib.Core.Logic.{_⊎_, ⊎-elim}
 use Prim.Native.Nat.{ℕ, _+_, _-_, _*_, _/_, _%_, _≤_, _<_}
-use lib.Dec.{leb}
 use native.Mathlib.Omega.{arith}
-use Rattle.std.proofs.shelf.Tests.{and-parts, leb-true, cases-lt}
+use Rattle.std.proofs.shelf.Tests.{and-parts, cases-lt}
 use Rattle.std.proofs.shelf.Ways.{tells}
-use Rattle.terms.specs.Prices.{within}
+use Rattle.terms.specs.Prices.{within, within-ends}
 use Rattle.terms.specs.Dates.{yearOf, monthOf, dayOf, daysIn, isDate, monthCount, wholeMonths}
 use Rattle.terms.specs.Calendar.{Written, Months-passed, monthsOn}
 
@@ -15,8 +14,7 @@ use Rattle.terms.specs.Calendar.{Written, Months-passed, monthsOn}
 month : (n : ℕ) → isDate n ≡ true → (1 ≤ monthOf n) × (monthOf n ≤ 12)
 month n date =
     let parts = and-parts (within 2000 2099 (yearOf n)) (within 1 12 (monthOf n)) (and-parts (within 2000 2099 (yearOf n) && within 1 12 (monthOf n)) (within 1 (daysIn (yearOf n) (monthOf n)) (dayOf n)) date .0) .1 in
-    let ends = and-parts (leb 1 (monthOf n)) (leb (monthOf n) 12) parts in
-    (leb-true 1 (monthOf n) (ends .0), leb-true (monthOf n) 12 (ends .1))
+    within-ends 1 12 (monthOf n) parts
 
 pub months-none : (n : ℕ) → wholeMonths n n ≡ 0
 months-none n = omega arith

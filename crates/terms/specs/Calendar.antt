@@ -14,11 +14,11 @@ abbrev pub daysOf : ℕ → ℕ
 daysOf zero = 0
 daysOf (suc n) = daysIn (2000 + n / 12) (n % 12 + 1) + daysOf n
 
--- a hundred years have 36,525 days
+-- the hundred years from 2000 on have 36,525 days
 abbrev pub Century : Type 0
 Century = daysOf 1200 ≡ 36525
 
--- the same day m months on, as a number; where that month is too short, as the number between it and the next
+-- the number that says the same day m months on; where that month is too short, it is above all dates of the month and below those of the next
 abbrev pub monthsOn : ℕ → ℕ → ℕ
 monthsOn n m = 10000 * ((monthCount n + m - 1) / 12) + 100 * ((monthCount n + m - 1) % 12 + 1) + dayOf n
 
