@@ -1,4 +1,6 @@
 //! Tries the steps of the table ladders against the tick table of the law, given as text on standard input.
+#![tactic(auto)]
+
 mod row;
 mod totals;
 mod trial;

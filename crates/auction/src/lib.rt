@@ -1,4 +1,6 @@
 //! The auction price: of the rungs of a ladder the one at which most shares trade, found among few candidates.
+#![tactic(auto)]
+
 mod laws;
 mod mark;
 mod merit;

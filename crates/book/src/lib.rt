@@ -1,4 +1,6 @@
 //! The order book of an auction: order lines, depth, who comes first, fills, and edits of the lines in place.
+#![tactic(auto)]
+
 mod choose;
 mod depth;
 mod fill;

@@ -1,4 +1,6 @@
 //! The engine as functions that a program in another language can call, through a static library.
+#![tactic(auto)]
+
 mod calls;
 mod exports;
 mod types;

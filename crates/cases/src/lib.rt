@@ -1,4 +1,6 @@
 //! Worked cases: what the definitions say of examples whose answers are known.
+#![tactic(auto)]
+
 ghost use Rattle.cases.specs.Cases.{WorkedCases};
 
 /// Does nothing. Its contract says what the definitions give in the worked cases.

@@ -1,4 +1,6 @@
 //! Ladders: sets of prices that say whether a number is one of them and which is the nearest.
+#![tactic(auto)]
+
 mod either;
 mod flat;
 mod laws;

@@ -1,4 +1,6 @@
 //! The period sheet: what decides a share's gate, price limits and Reference Price.
+#![tactic(auto)]
+
 mod event;
 mod float;
 mod founding;

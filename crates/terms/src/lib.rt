@@ -1,4 +1,6 @@
 //! The vocabulary that every layer shares: prices, dates, trades, and refusals with their numbers.
+#![tactic(auto)]
+
 mod date;
 mod laws;
 mod price;

@@ -1,4 +1,6 @@
 //! Text as bytes: cutting it at a byte, and amounts of euros written in it.
+#![tactic(auto)]
+
 mod euros;
 mod split;
 
