@@ -24,53 +24,53 @@ module _ (rungs : Rungs) (lines : List Order) (r : ℕ) where
   abbrev Part : ℕ → ℕ → ℕ → Type 0
   Part lo n q = (lo ≤ q) × (q < lo + n)
 
-  part-more : (lo n q : ℕ) (A : Type 0) → Part lo (suc n) q → (Part lo n q → A) → (q ≡ lo + n → A) → A
-  part-more lo n q A h f g = ⊎_elim (λ (e : q ≡ lo + n). g e) (λ (s : q ≡ lo + n → ⊥). f (omega arith, omega arith)) (cases_eq q (lo + n))
+  part_more : (lo n q : ℕ) (A : Type 0) → Part lo (suc n) q → (Part lo n q → A) → (q ≡ lo + n → A) → A
+  part_more lo n q A h f g = ⊎_elim (λ (e : q ≡ lo + n). g e) (λ (s : q ≡ lo + n → ⊥). f (omega arith, omega arith)) (cases_eq q (lo + n))
 
   takes : (lo n : ℕ) (b : Option ℕ) → In rungs (lo + n) → FirstIn (Part lo n) b → FirstIn (Part lo (suc n)) (first_of lines r (lo + n) b)
-  takes lo n None on h = (on, λ q part in-q. part-more lo n q (before lines r q (lo + n) ≡ false) part (λ p. absurd (h q p in-q)) (λ e. rw e (ahead_itself (mark lines r (lo + n)))))
+  takes lo n None on h = (on, λ q part in-q. part_more lo n q (before lines r q (lo + n) ≡ false) part (λ p. absurd (h q p in-q)) (λ e. rw e (ahead_itself (mark lines r (lo + n)))))
   takes lo n (Some b) on h =
       cond_both (before lines r (lo + n) b) (Some (lo + n)) (Some b) (FirstIn (Part lo (suc n)))
       (λ t. (
         on,
-        λ q part in-q. part-more lo n q (before lines r q (lo + n) ≡ false) part
+        λ q part in-q. part_more lo n q (before lines r q (lo + n) ≡ false) part
             (λ p. ⊎_elim (λ (y : before lines r q (lo + n) ≡ true). absurd (both_ways (before lines r q b) (h.1 q p in-q) (ahead_carries true (mark lines r q) (mark lines r (lo + n)) (mark lines r b) y t))) (λ (z : before lines r q (lo + n) ≡ false). z) (cases_Bool (before lines r q (lo + n))))
             (λ e. rw e (ahead_itself (mark lines r (lo + n)))),
       ))
-      (λ f. (h.0, λ q part in-q. part-more lo n q (before lines r q b ≡ false) part (λ p. h.1 q p in-q) (λ e. rw e f)))
+      (λ f. (h.0, λ q part in-q. part_more lo n q (before lines r q b ≡ false) part (λ p. h.1 q p in-q) (λ e. rw e f)))
 
   passes : (lo n : ℕ) (b : Option ℕ) → rungs (lo + n) ≡ false → FirstIn (Part lo n) b → FirstIn (Part lo (suc n)) b
-  passes lo n None off h = λ q part in-q. part-more lo n q ⊥ part (λ p. h q p in-q) (λ e. both_ways (rungs (lo + n)) off (sym (ap rungs e) ∙ in-q))
-  passes lo n (Some b) off h = (h.0, λ q part in-q. part-more lo n q (before lines r q b ≡ false) part (λ p. h.1 q p in-q) (λ e. absurd (both_ways (rungs (lo + n)) off (sym (ap rungs e) ∙ in-q))))
+  passes lo n None off h = λ q part in-q. part_more lo n q ⊥ part (λ p. h q p in-q) (λ e. both_ways (rungs (lo + n)) off (sym (ap rungs e) ∙ in-q))
+  passes lo n (Some b) off h = (h.0, λ q part in-q. part_more lo n q (before lines r q b ≡ false) part (λ p. h.1 q p in-q) (λ e. absurd (both_ways (rungs (lo + n)) off (sym (ap rungs e) ∙ in-q))))
 
-  pub best-first : (lo n : ℕ) → FirstIn (Part lo n) (best rungs lines r lo n)
+  pub best_first : (lo n : ℕ) → FirstIn (Part lo n) (best rungs lines r lo n)
   unfolding best
-  best-first lo zero = λ q part in-q. omega arith
-  best-first lo (suc n) =
+  best_first lo zero = λ q part in-q. omega arith
+  best_first lo (suc n) =
       cond_both (rungs (lo + n)) (first_of lines r (lo + n) (best rungs lines r lo n)) (best rungs lines r lo n) (FirstIn (Part lo (suc n)))
-      (λ on. takes lo n (best rungs lines r lo n) on (best-first lo n))
-      (λ off. passes lo n (best rungs lines r lo n) off (best-first lo n))
+      (λ on. takes lo n (best rungs lines r lo n) on (best_first lo n))
+      (λ off. passes lo n (best rungs lines r lo n) off (best_first lo n))
 
   some_left : (n : ℕ) → (n ≡ 0 → ⊥) → 0 < n
   some_left n h = omega arith
 
-  is-from-first : (lo n : ℕ) → Within rungs lo n → (b : Option ℕ) → FirstIn (Part lo n) b → IsAuction rungs lines r (if_trading lines b)
-  is-from-first lo n within None h = λ q in-q. absurd (h q (within q in-q) in-q)
-  is-from-first lo n within (Some p) h =
+  is_from_first : (lo n : ℕ) → Within rungs lo n → (b : Option ℕ) → FirstIn (Part lo n) b → IsAuction rungs lines r (if_trading lines b)
+  is_from_first lo n within None h = λ q in-q. absurd (h q (within q in-q) in-q)
+  is_from_first lo n within (Some p) h =
       cond_both (eqb (trading lines p) 0) None (Some p) (IsAuction rungs lines r)
       (λ t. λ q in-q. nothing_more (mark lines r q) (mark lines r p) (h.1 q (within q in-q) in-q) (eqb-true (trading lines p) 0 t))
       (λ f. (h.0, some_left (trading lines p) (eqb-false (trading lines p) 0 f), λ q in-q. h.1 q (within q in-q) in-q))
 
   -- the search meets the statement
-  pub auction-is : (lo n : ℕ) → Within rungs lo n → IsAuction rungs lines r (auction rungs lines r lo n)
-  auction-is lo n within = is-from-first lo n within (best rungs lines r lo n) (best-first lo n)
+  pub auction_is : (lo n : ℕ) → Within rungs lo n → IsAuction rungs lines r (auction rungs lines r lo n)
+  auction_is lo n within = is_from_first lo n within (best rungs lines r lo n) (best_first lo n)
 
   -- the statement leaves one answer
-  pub one-auction : (a b : Option ℕ) → IsAuction rungs lines r a → IsAuction rungs lines r b → a ≡ b
-  one-auction None None h k = refl
-  one-auction None (Some q) h k = absurd (omega (arith, h q k.0, k.1))
-  one-auction (Some p) None h k = absurd (omega (arith, k p h.0, h.1))
-  one-auction (Some p) (Some q) h k =
+  pub one_auction : (a b : Option ℕ) → IsAuction rungs lines r a → IsAuction rungs lines r b → a ≡ b
+  one_auction None None h k = refl
+  one_auction None (Some q) h k = absurd (omega (arith, h q k.0, k.1))
+  one_auction (Some p) None h k = absurd (omega (arith, k p h.0, h.1))
+  one_auction (Some p) (Some q) h k =
       ⊎_elim
       (λ (e : p ≡ q). ap Some e)
       (λ (s : p ≡ q → ⊥).
@@ -79,22 +79,22 @@ module _ (rungs : Rungs) (lines : List Order) (r : ℕ) where
       absurd (both_ways true z refl))
       (cases_eq p q)
 
-  pub any-range : (lo n lo' n' : ℕ) → Within rungs lo n → Within rungs lo' n' → auction rungs lines r lo n ≡ auction rungs lines r lo' n'
-  any-range lo n lo' n' within within' = one-auction (auction rungs lines r lo n) (auction rungs lines r lo' n') (auction-is lo n within) (auction-is lo' n' within')
+  pub any_range : (lo n lo' n' : ℕ) → Within rungs lo n → Within rungs lo' n' → auction rungs lines r lo n ≡ auction rungs lines r lo' n'
+  any_range lo n lo' n' within within' = one_auction (auction rungs lines r lo n) (auction rungs lines r lo' n') (auction_is lo n within) (auction_is lo' n' within')
 
   -- a mark of a rung that all rungs are behind is the answer
   none_left : (n : ℕ) → n ≤ 0 → n ≡ 0
   none_left n h = omega arith
 
-  pub is-from-best : (found : Option RungMark) → Rightly rungs lines r found → ((q : ℕ) → In rungs q → Behind found (Some (mark lines r q))) → IsAuction rungs lines r (price_of found)
-  is-from-best None right behind = λ q in-q. none_left (trading lines q) (ltb-false 0 (trading lines q) (behind q in-q))
-  is-from-best (Some m) right behind =
+  pub is_from_best : (found : Option RungMark) → Rightly rungs lines r found → ((q : ℕ) → In rungs q → Behind found (Some (mark lines r q))) → IsAuction rungs lines r (price_of found)
+  is_from_best None right behind = λ q in-q. none_left (trading lines q) (ltb-false 0 (trading lines q) (behind q in-q))
+  is_from_best (Some m) right behind =
       (right.1, subst (λ (k : RungMark). 0 < k.shares) right.0 right.2, λ q in-q. subst (λ (k : RungMark). ahead (mark lines r q) k ≡ false) right.0 (behind q in-q))
 
-  pub is-marked : (found : Option RungMark) → Rightly rungs lines r found → found ≡ marked lines r (price_of found)
-  is-marked None right = refl
-  is-marked (Some m) right = ap Some right.0
+  pub is_marked : (found : Option RungMark) → Rightly rungs lines r found → found ≡ marked lines r (price_of found)
+  is_marked None right = refl
+  is_marked (Some m) right = ap Some right.0
 
   pub answers : (found : Option RungMark) → Rightly rungs lines r found → ((q : ℕ) → In rungs q → Behind found (Some (mark lines r q))) → (lo n : ℕ) → Within rungs lo n → found ≡ marked lines r (auction rungs lines r lo n)
   answers found right behind lo n within =
-      is-marked found right ∙ ap (marked lines r) (one-auction (price_of found) (auction rungs lines r lo n) (is-from-best found right behind) (auction-is lo n within))
+      is_marked found right ∙ ap (marked lines r) (one_auction (price_of found) (auction rungs lines r lo n) (is_from_best found right behind) (auction_is lo n within))

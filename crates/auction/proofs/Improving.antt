@@ -72,68 +72,68 @@ module _ (rungs : Rungs) (lines : List Order) (r : ℕ) where
   OnRung None = Unit {0}
   OnRung (Some q) = In rungs q
 
-  lowest-on : (p : ℕ) (o : Option ℕ) → Lowest rungs p o → OnRung o
-  lowest-on p None h = tt
-  lowest-on p (Some q) h = h.0
+  lowest_on : (p : ℕ) (o : Option ℕ) → Lowest rungs p o → OnRung o
+  lowest_on p None h = tt
+  lowest_on p (Some q) h = h.0
 
-  highest-on : (p : ℕ) (o : Option ℕ) → Highest rungs p o → OnRung o
-  highest-on p None h = tt
-  highest-on p (Some q) h = h.0
+  highest_on : (p : ℕ) (o : Option ℕ) → Highest rungs p o → OnRung o
+  highest_on p None h = tt
+  highest_on p (Some q) h = h.0
 
   -- a mark at which a share trades, of a rung that there is
-  rightly-mark : (o : Option ℕ) (m : RungMark) → OnRung o → marked lines r o ≡ Some m → 0 < m.shares → Rightly rungs lines r (Some m)
-  rightly-mark None m on e s = absurd (let z : ◌≡◌ {A = ℕ} 0 1 = cc in omega arith)
-  rightly-mark (Some q) m on e s =
+  rightly_mark : (o : Option ℕ) (m : RungMark) → OnRung o → marked lines r o ≡ Some m → 0 < m.shares → Rightly rungs lines r (Some m)
+  rightly_mark None m on e s = absurd (let z : ◌≡◌ {A = ℕ} 0 1 = cc in omega arith)
+  rightly_mark (Some q) m on e s =
       let same : mark lines r q ≡ m = cc in
       subst (λ (k : RungMark). 0 < k.shares → Rightly rungs lines r (Some k)) same (λ t. (refl, on, t)) s
 
   module _ (low high : ℕ) (old best below above : Option RungMark) (down up : Option ℕ) (is_down : Highest rungs low down) (is_up : Lowest rungs high up) (is_below : below ≡ marked lines r down) (is-above : above ≡ marked lines r up) (first : Foremost (three old below above) best) where
-    rightly-one : (m : RungMark) → Rightly rungs lines r old → OneOf (record { mark = Some m }) (three old below above) → 0 < m.shares → Rightly rungs lines r (Some m)
-    rightly-one m right (inl e) s = subst (Rightly rungs lines r) (ap (λ (x : Candidate). x.mark) e) right
-    rightly-one m right (inr (inl e)) s = rightly-mark down m (highest-on low down is_down) (sym is_below ∙ ap (λ (x : Candidate). x.mark) e) s
-    rightly-one m right (inr (inr (inl e))) s = rightly-mark up m (lowest-on high up is_up) (sym is-above ∙ ap (λ (x : Candidate). x.mark) e) s
-    rightly-one m right (inr (inr (inr e))) s = absurd e
+    rightly_one : (m : RungMark) → Rightly rungs lines r old → OneOf (record { mark = Some m }) (three old below above) → 0 < m.shares → Rightly rungs lines r (Some m)
+    rightly_one m right (inl e) s = subst (Rightly rungs lines r) (ap (λ (x : Candidate). x.mark) e) right
+    rightly_one m right (inr (inl e)) s = rightly_mark down m (highest_on low down is_down) (sym is_below ∙ ap (λ (x : Candidate). x.mark) e) s
+    rightly_one m right (inr (inr (inl e))) s = rightly_mark up m (lowest_on high up is_up) (sym is-above ∙ ap (λ (x : Candidate). x.mark) e) s
+    rightly_one m right (inr (inr (inr e))) s = absurd e
 
-  rightly-new : (low high : ℕ) (old best below above : Option RungMark) (down up : Option ℕ) → Highest rungs low down → Lowest rungs high up → below ≡ marked lines r down → above ≡ marked lines r up → Foremost (three old below above) best → Rightly rungs lines r old → Rightly rungs lines r best
-  rightly-new low high old None below above down up d u eb ea f right = tt
-  rightly-new low high old (Some m) below above down up d u eb ea f right = rightly-one low high old (Some m) below above down up d u eb ea f m right f.1.0 f.1.1
+  rightly_new : (low high : ℕ) (old best below above : Option RungMark) (down up : Option ℕ) → Highest rungs low down → Lowest rungs high up → below ≡ marked lines r down → above ≡ marked lines r up → Foremost (three old below above) best → Rightly rungs lines r old → Rightly rungs lines r best
+  rightly_new low high old None below above down up d u eb ea f right = tt
+  rightly_new low high old (Some m) below above down up d u eb ea f right = rightly_one low high old (Some m) below above down up d u eb ea f m right f.1.0 f.1.1
 
-  tried-low : (low : ℕ) (best : Option RungMark) (o : Option ℕ) → Highest rungs low o → Behind best (marked lines r o) → (q : ℕ) → In rungs q → q ≤ low → (c : ℕ) × In rungs c × (q ≤ c) × (c ≤ low) × Behind best (Some (mark lines r c))
-  tried-low low best None h b q on le = absurd (h q le on)
-  tried-low low best (Some c) h b q on le = (c, h.0, h.2 q le on, h.1, b)
+  tried_low : (low : ℕ) (best : Option RungMark) (o : Option ℕ) → Highest rungs low o → Behind best (marked lines r o) → (q : ℕ) → In rungs q → q ≤ low → (c : ℕ) × In rungs c × (q ≤ c) × (c ≤ low) × Behind best (Some (mark lines r c))
+  tried_low low best None h b q on le = absurd (h q le on)
+  tried_low low best (Some c) h b q on le = (c, h.0, h.2 q le on, h.1, b)
 
-  tried-high : (high : ℕ) (best : Option RungMark) (o : Option ℕ) → Lowest rungs high o → Behind best (marked lines r o) → (q : ℕ) → In rungs q → high ≤ q → (c : ℕ) × In rungs c × (high ≤ c) × (c ≤ q) × Behind best (Some (mark lines r c))
-  tried-high high best None h b q on le = absurd (h q le on)
-  tried-high high best (Some c) h b q on le = (c, h.0, h.1, h.2 q le on, b)
+  tried_high : (high : ℕ) (best : Option RungMark) (o : Option ℕ) → Lowest rungs high o → Behind best (marked lines r o) → (q : ℕ) → In rungs q → high ≤ q → (c : ℕ) × In rungs c × (high ≤ c) × (c ≤ q) × Behind best (Some (mark lines r c))
+  tried_high high best None h b q on le = absurd (h q le on)
+  tried_high high best (Some c) h b q on le = (c, h.0, h.1, h.2 q le on, b)
 
   pub improves : (low high : ℕ) (old best below above : Option RungMark) (down up : Option ℕ) → Highest rungs low down → Lowest rungs high up → below ≡ marked lines r down → above ≡ marked lines r up → Foremost (three old below above) best → Improves rungs lines r low high old best
   improves low high old best below above down up d u eb ea f = record {
-    rightly = rightly-new low high old best below above down up d u eb ea f;
+    rightly = rightly_new low high old best below above down up d u eb ea f;
     keeps = keeps_behind old best (three old below above) f.1 f.0.0;
-    tried = (tried-low low best down d (subst (Behind best) eb f.0.1.0), tried-high high best up u (subst (Behind best) ea f.0.1.1.0));
+    tried = (tried_low low best down d (subst (Behind best) eb f.0.1.0), tried_high high best up u (subst (Behind best) ea f.0.1.1.0));
   }
 
   -- a new best loses nothing that was tried
-  pub still-tried : (low high : ℕ) (old best : Option RungMark) → ((x : Option RungMark) → Behind old x → Behind best x) → Tried rungs lines r low high old → Tried rungs lines r low high best
-  still-tried low high old best keeps t = (
+  pub still_tried : (low high : ℕ) (old best : Option RungMark) → ((x : Option RungMark) → Behind old x → Behind best x) → Tried rungs lines r low high old → Tried rungs lines r low high best
+  still_tried low high old best keeps t = (
     λ q on le. let h = t.0 q on le in (h.0, h.1, h.2, h.3, keeps (Some (mark lines r h.0)) h.4),
     λ q on le. let h = t.1 q on le in (h.0, h.1, h.2, h.3, keeps (Some (mark lines r h.0)) h.4),
   )
 
-  pub none-searched : (best : Option RungMark) (low high : ℕ) → low ≡ r → high ≡ r → Improves rungs lines r low high None best → Searched rungs lines r 0 best
-  none-searched best low high is-low is-high new = record { rightly = new.rightly tt; here = rw (is-low, is-high) at new.tried; each = tt }
+  pub none_searched : (best : Option RungMark) (low high : ℕ) → low ≡ r → high ≡ r → Improves rungs lines r low high None best → Searched rungs lines r 0 best
+  none_searched best low high is-low is-high new = record { rightly = new.rightly tt; here = rw (is-low, is-high) at new.tried; each = tt }
 
-  pub one-searched : (n : ℕ) (old best : Option RungMark) (low high : ℕ) → n < length lines → low ≡ turn (get_or lines n free) - 1 → high ≡ turn (get_or lines n free) → Searched rungs lines r n old → Improves rungs lines r low high old best → Searched rungs lines r (n + 1) best
-  one-searched n old best low high within is-low is-high before new =
+  pub one_searched : (n : ℕ) (old best : Option RungMark) (low high : ℕ) → n < length lines → low ≡ turn (get_or lines n free) - 1 → high ≡ turn (get_or lines n free) → Searched rungs lines r n old → Improves rungs lines r low high old best → Searched rungs lines r (n + 1) best
+  one_searched n old best low high within is-low is-high before new =
       let Turned : Option RungMark → Order → Type 0 = λ b x. Tried rungs lines r (turn x - 1) (turn x) b in
       record {
         rightly = new.rightly before.rightly;
-        here = still-tried r r old best new.keeps before.here;
+        here = still_tried r r old best new.keeps before.here;
         each = All-more (Turned best) lines n free within
-            (All-weaker (Turned old) (Turned best) (λ x. still-tried (turn x - 1) (turn x) old best new.keeps) (take n lines) before.each)
+            (All-weaker (Turned old) (Turned best) (λ x. still_tried (turn x - 1) (turn x) old best new.keeps) (take n lines) before.each)
             (rw (is-low, is-high) at new.tried);
       }
 
-  pub all-searched : (n : ℕ) (best : Option RungMark) → length lines ≤ n → Searched rungs lines r n best → (q : ℕ) → In rungs q → Behind best (Some (mark lines r q))
-  all-searched n best past s =
+  pub all_searched : (n : ℕ) (best : Option RungMark) → length lines ≤ n → Searched rungs lines r n best → (q : ℕ) → In rungs q → Behind best (Some (mark lines r q))
+  all_searched n best past s =
       covers rungs lines r best s.here (subst (All (λ (x : Order). Tried rungs lines r (turn x - 1) (turn x) best)) (take_all n lines past) s.each)

@@ -66,40 +66,40 @@ cond_le false s = omega arith
 
 -- ---- what passes on one side, line by line
 module _ (at : Passage → ℕ) where
-  abbrev by-line : ℕ → List Passage → ℕ
-  by-line i ps = sum_by (λ p. cond (eqb (at p) i) p.shares 0) ps
+  abbrev by_line : ℕ → List Passage → ℕ
+  by_line i ps = sum_by (λ p. cond (eqb (at p) i) p.shares 0) ps
 
-  by-cons : (i : ℕ) (p : Passage) (ps : List Passage) → by-line i (p ∷ ps) ≡ cond (eqb (at p) i) p.shares 0 + by-line i ps
-  by-cons i p ps = sum_by-cons (λ (x : Passage). cond (eqb (at x) i) x.shares 0) p ps
+  by_cons : (i : ℕ) (p : Passage) (ps : List Passage) → by_line i (p ∷ ps) ≡ cond (eqb (at p) i) p.shares 0 + by_line i ps
+  by_cons i p ps = sum_by-cons (λ (x : Passage). cond (eqb (at x) i) x.shares 0) p ps
 
   -- what passes is the sum of what passes at each line
-  all-by-line : (n : ℕ) (ps : List Passage) → All (λ p. at p < n) ps → passed ps ≡ sum_to (λ i. by-line i ps) n
-  all-by-line n [] h = sym (sum_none (λ i. by-line i []) n (λ i. refl))
-  all-by-line n (p ∷ ps) h =
+  all_by_line : (n : ℕ) (ps : List Passage) → All (λ p. at p < n) ps → passed ps ≡ sum_to (λ i. by_line i ps) n
+  all_by_line n [] h = sym (sum_none (λ i. by_line i []) n (λ i. refl))
+  all_by_line n (p ∷ ps) h =
       omega (
         arith,
         sum_by-cons (λ (x : Passage). x.shares) p ps,
-        all-by-line n ps h.1,
+        all_by_line n ps h.1,
         sum_one (at p) p.shares n h.0,
-        sum_both (λ i. cond (eqb (at p) i) p.shares 0) (λ i. by-line i ps) (λ i. by-line i (p ∷ ps)) n (λ i. by-cons i p ps),
+        sum_both (λ i. cond (eqb (at p) i) p.shares 0) (λ i. by_line i ps) (λ i. by_line i (p ∷ ps)) n (λ i. by_cons i p ps),
       )
 
   module _ (side : Side) (lines : List Order) (q : ℕ) where
     -- none passes at a line that does not accept the price
-    none-by-line : (i : ℕ) (ps : List Passage) → accepts side q (get_or lines i free) ≡ false → All (λ p. (at p < length lines) × (accepts side q (get_or lines (at p) free) ≡ true)) ps → by-line i ps ≡ 0
-    none-by-line i [] off h = refl
-    none-by-line i (p ∷ ps) off h =
+    none_by_line : (i : ℕ) (ps : List Passage) → accepts side q (get_or lines i free) ≡ false → All (λ p. (at p < length lines) × (accepts side q (get_or lines (at p) free) ≡ true)) ps → by_line i ps ≡ 0
+    none_by_line i [] off h = refl
+    none_by_line i (p ∷ ps) off h =
         ⊎_elim
         (λ (e : at p ≡ i). absurd (both_ways (accepts side q (get_or lines i free)) off (sym (ap (λ k. accepts side q (get_or lines k free)) e) ∙ h.0.1)))
-        (λ (ne : at p ≡ i → ⊥). omega (arith, by-cons i p ps, only (at p) p.shares i ne, none-by-line i ps off h.1))
+        (λ (ne : at p ≡ i → ⊥). omega (arith, by_cons i p ps, only (at p) p.shares i ne, none_by_line i ps off h.1))
         (cases_eq (at p) i)
 
-    pub side-passed : (ps : List Passage) → All (λ p. (at p < length lines) × (accepts side q (get_or lines (at p) free) ≡ true)) ps → ((i : ℕ) → by-line i ps ≤ (get_or lines i free).left) → passed ps ≤ sum_by (shares_at side q) lines
-    side-passed ps h cap =
+    pub side_passed : (ps : List Passage) → All (λ p. (at p < length lines) × (accepts side q (get_or lines (at p) free) ≡ true)) ps → ((i : ℕ) → by_line i ps ≤ (get_or lines i free).left) → passed ps ≤ sum_by (shares_at side q) lines
+    side_passed ps h cap =
         let n = length lines in
-        let each : (i : ℕ) → i < n → by-line i ps ≤ shares_at side q (get_or lines i free) =
-        λ i lt. cond_both (accepts side q (get_or lines i free)) (get_or lines i free).left 0 (λ m. by-line i ps ≤ m) (λ _. cap i) (λ off. omega (arith, none-by-line i ps off h)) in
-        omega (arith, all-by-line n ps (All-weaker (λ p. (at p < n) × (accepts side q (get_or lines (at p) free) ≡ true)) (λ p. at p < n) (λ p k. k.0) ps h), sum_most (λ i. by-line i ps) (λ i. shares_at side q (get_or lines i free)) n each, depth_by_line side lines q)
+        let each : (i : ℕ) → i < n → by_line i ps ≤ shares_at side q (get_or lines i free) =
+        λ i lt. cond_both (accepts side q (get_or lines i free)) (get_or lines i free).left 0 (λ m. by_line i ps ≤ m) (λ _. cap i) (λ off. omega (arith, none_by_line i ps off h)) in
+        omega (arith, all_by_line n ps (All-weaker (λ p. (at p < n) × (accepts side q (get_or lines (at p) free) ≡ true)) (λ p. at p < n) (λ p k. k.0) ps h), sum_most (λ i. by_line i ps) (λ i. shares_at side q (get_or lines i free)) n each, depth_by_line side lines q)
 
 -- ---- while less has passed than the depth of a side, some line of that side has a share left
 room : (f g : ℕ → ℕ) (n : ℕ) → sum_to f n < sum_to g n → (i : ℕ) × (i < n) × (f i < g i)
@@ -116,23 +116,23 @@ shares_taken false left k h = absurd (omega arith)
 
 module _ (at : Passage → ℕ) (side : Side) (lines : List Order) (q : ℕ) where
   abbrev Fair : List Passage → Type 0
-  Fair ps = All (λ p. (at p < length lines) × (accepts side q (get_or lines (at p) free) ≡ true)) ps × ((i : ℕ) → by-line at i ps ≤ (get_or lines i free).left)
+  Fair ps = All (λ p. (at p < length lines) × (accepts side q (get_or lines (at p) free) ≡ true)) ps × ((i : ℕ) → by_line at i ps ≤ (get_or lines i free).left)
 
-  free-line : (ps : List Passage) → Fair ps → passed ps < sum_by (shares_at side q) lines → (i : ℕ) × (i < length lines) × (accepts side q (get_or lines i free) ≡ true) × (by-line at i ps < (get_or lines i free).left)
-  free-line ps fair less =
+  free_line : (ps : List Passage) → Fair ps → passed ps < sum_by (shares_at side q) lines → (i : ℕ) × (i < length lines) × (accepts side q (get_or lines i free) ≡ true) × (by_line at i ps < (get_or lines i free).left)
+  free_line ps fair less =
       let n = length lines in
-      let found = room (λ i. by-line at i ps) (λ i. shares_at side q (get_or lines i free)) n
-      (omega (arith, all-by-line at n ps (All-weaker (λ p. (at p < n) × (accepts side q (get_or lines (at p) free) ≡ true)) (λ p. at p < n) (λ p k. k.0) ps fair.0), depth_by_line side lines q)) in
+      let found = room (λ i. by_line at i ps) (λ i. shares_at side q (get_or lines i free)) n
+      (omega (arith, all_by_line at n ps (All-weaker (λ p. (at p < n) × (accepts side q (get_or lines (at p) free) ≡ true)) (λ p. at p < n) (λ p k. k.0) ps fair.0), depth_by_line side lines q)) in
       let line = get_or lines found.0 free in
-      let taken = shares_taken (accepts side q line) line.left (by-line at found.0 ps) found.2 in
+      let taken = shares_taken (accepts side q line) line.left (by_line at found.0 ps) found.2 in
       (found.0, found.1, taken.0, taken.1)
 
-  one_more : (p : Passage) (ps : List Passage) → Fair ps → p.shares ≡ 1 → at p < length lines → accepts side q (get_or lines (at p) free) ≡ true → by-line at (at p) ps < (get_or lines (at p) free).left → Fair (p ∷ ps)
+  one_more : (p : Passage) (ps : List Passage) → Fair ps → p.shares ≡ 1 → at p < length lines → accepts side q (get_or lines (at p) free) ≡ true → by_line at (at p) ps < (get_or lines (at p) free).left → Fair (p ∷ ps)
   one_more p ps fair one within taken less = (
     ((within, taken), fair.0),
     λ i. ⊎_elim
-        (λ (e : at p ≡ i). subst (λ k. by-line at k (p ∷ ps) ≤ (get_or lines k free).left) e (omega (arith, by-cons at (at p) p ps, less, one, cond_le (eqb (at p) (at p)) p.shares)))
-        (λ (ne : at p ≡ i → ⊥). omega (arith, by-cons at i p ps, only (at p) p.shares i ne, fair.1 i))
+        (λ (e : at p ≡ i). subst (λ k. by_line at k (p ∷ ps) ≤ (get_or lines k free).left) e (omega (arith, by_cons at (at p) p ps, less, one, cond_le (eqb (at p) (at p)) p.shares)))
+        (λ (ne : at p ≡ i → ⊥). omega (arith, by_cons at i p ps, only (at p) p.shares i ne, fair.1 i))
         (cases_eq (at p) i),
   )
 
@@ -143,8 +143,8 @@ can_pass lines q (suc n) h =
     let ps = rest.0 in
     let fair-buys : Fair (λ p. p.buyer) Buy lines q ps = (rest.1.buyers, rest.1.buys) in
     let fair-sells : Fair (λ p. p.seller) Sell lines q ps = (rest.1.sellers, rest.1.sells) in
-    let b = free-line (λ p. p.buyer) Buy lines q ps fair-buys (omega (arith, rest.2)) in
-    let s = free-line (λ p. p.seller) Sell lines q ps fair-sells (omega (arith, rest.2)) in
+    let b = free_line (λ p. p.buyer) Buy lines q ps fair-buys (omega (arith, rest.2)) in
+    let s = free_line (λ p. p.seller) Sell lines q ps fair-sells (omega (arith, rest.2)) in
     let p : Passage = record { seller = s.0; buyer = b.0; shares = 1 } in
     let more-buys = one_more (λ p. p.buyer) Buy lines q p ps fair-buys refl b.1 b.2 b.3 in
     let more-sells = one_more (λ p. p.seller) Sell lines q p ps fair-sells refl s.1 s.2 s.3 in
@@ -160,7 +160,7 @@ best_can_trade rungs lines r (Some m) right =
 -- ---- no trades at a rung move more than the best, and those that move as many leave no smaller surplus
 pub trades_most : (lines : List Order) (q : ℕ) (ps : List Passage) → Possible lines q ps → passed ps ≤ trading lines q
 trades_most lines q ps h =
-    omega (arith, side-passed (λ p. p.buyer) Buy lines q ps h.buyers h.buys, side-passed (λ p. p.seller) Sell lines q ps h.sellers h.sells)
+    omega (arith, side_passed (λ p. p.buyer) Buy lines q ps h.buyers h.buys, side_passed (λ p. p.seller) Sell lines q ps h.sellers h.sells)
 
 shares_behind : (a m : RungMark) → ahead a m ≡ false → a.shares ≤ m.shares
 shares_behind a m h = grind (arith, nat_tests)

@@ -15,26 +15,26 @@ here xs n x within read d = sym (get_or_read xs n x within read d)
 
 module _ {X : Type 0} (eligible : X → Bool) {before apart : X → X → Bool} (ranks : Ordering before apart) (xs : List X) (n : ℕ) (x : X) (within : n < length xs) (read : x ≡ get_or xs n x) where
   -- the first so far, y, as the code reads it
-  pub leads-some : (f : Option ℕ) (i : ℕ) (y : X) → f ≡ Some i → Chosen eligible before xs n f → y ≡ get_or xs i y → before x y ≡ leads before xs x f
-  leads-some f i y is h found =
+  pub leads_some : (f : Option ℕ) (i : ℕ) (y : X) → f ≡ Some i → Chosen eligible before xs n f → y ≡ get_or xs i y → before x y ≡ leads before xs x f
+  leads_some f i y is h found =
       let P : Option ℕ → Type 0 = Chosen eligible before xs n in
       let inside : i < length xs = omega (arith, (subst P is h).0) in
       rw is (ap (before x) (get_or_read xs i y inside found x))
 
-  pub chosen-refuses : (f : Option ℕ) → Chosen eligible before xs n f → eligible x ≡ false → Chosen eligible before xs (n + 1) f
-  chosen-refuses None h unfit = below_more _ n h (λ d. ap eligible (here xs n x within read d) ∙ unfit)
-  chosen-refuses (Some i) h unfit =
+  pub chosen_refuses : (f : Option ℕ) → Chosen eligible before xs n f → eligible x ≡ false → Chosen eligible before xs (n + 1) f
+  chosen_refuses None h unfit = below_more _ n h (λ d. ap eligible (here xs n x within read d) ∙ unfit)
+  chosen_refuses (Some i) h unfit =
       (omega (arith, h.0), h.1, below_more _ n h.2 (λ d ad. absurd (both_ways _ (ap eligible (here xs n x within read d) ∙ unfit) ad)))
 
-  pub chosen-keeps : (f : Option ℕ) → Chosen eligible before xs n f → leads before xs x f ≡ false → Chosen eligible before xs (n + 1) f
-  chosen-keeps None h behind = absurd (both_ways _ behind refl)
-  chosen-keeps (Some i) h behind =
+  pub chosen_keeps : (f : Option ℕ) → Chosen eligible before xs n f → leads before xs x f ≡ false → Chosen eligible before xs (n + 1) f
+  chosen_keeps None h behind = absurd (both_ways _ behind refl)
+  chosen_keeps (Some i) h behind =
       (omega (arith, h.0), h.1, below_more _ n h.2 (λ d ad. rw (here xs n x within read d) (rw (get_or_default xs i d x (omega (arith, h.0))) behind)))
 
-  pub chosen-takes : (f : Option ℕ) → Chosen eligible before xs n f → leads before xs x f ≡ true → eligible x ≡ true → Chosen eligible before xs (n + 1) (Some n)
-  chosen-takes None h ahead ad =
+  pub chosen_takes : (f : Option ℕ) → Chosen eligible before xs n f → leads before xs x f ≡ true → eligible x ≡ true → Chosen eligible before xs (n + 1) (Some n)
+  chosen_takes None h ahead ad =
       (omega arith, λ d. ap eligible (here xs n x within read d) ∙ ad, below_more _ n (λ k l d fit. absurd (both_ways _ (h k l d) fit)) (λ d _. ranks.never_itself _))
-  chosen-takes (Some i) h ahead ad = (
+  chosen_takes (Some i) h ahead ad = (
     omega arith,
     λ d. ap eligible (here xs n x within read d) ∙ ad,
     below_more _ n (λ k l d fit. ⊎_elim

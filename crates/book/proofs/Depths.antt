@@ -22,8 +22,8 @@ depth_le side price lines stand =
 
 -- one line more: `sum` is what the lines before it come to, and `more` what it adds
 module _ (side : Side) (price : ℕ) (lines : List Order) (i sum more : ℕ) (lt : i < length lines) (is : sum ≡ depth_on side (take i lines) price) (adds : more ≡ shares_at side price (get_or lines i free)) where
-  pub depth-more : sum + more ≡ depth_on side (take (i + 1) lines) price
-  depth-more = omega (arith, sum_by_more (shares_at side price) lines i free lt)
+  pub depth_more : sum + more ≡ depth_on side (take (i + 1) lines) price
+  depth_more = omega (arith, sum_by_more (shares_at side price) lines i free lt)
 
-  pub depth-fits : Standing lines → sum + more ≤ 102400000
-  depth-fits stand = omega (arith, depth-more, sum_by-take-le (shares_at side price) lines (i + 1), depth_le side price lines stand)
+  pub depth_fits : Standing lines → sum + more ≤ 102400000
+  depth_fits stand = omega (arith, depth_more, sum_by-take-le (shares_at side price) lines (i + 1), depth_le side price lines stand)

@@ -101,14 +101,14 @@ module _ {before : Order → Order → Bool} (ranks : Ordering before told_apart
       let other : eqb x.number c.number ≡ false = told_number x c (all_one (λ y. told_apart x y ≡ true) c xs told ic) in
       omega (arith, gained_cons c.number n x xs ∙ ap (λ t. cond t (min n x.left) 0 + gained c.number (dealt (n - x.left) xs)) other)
 
-  whole-next : (n : ℕ) (x : Order) (xs : List Order) → ByMerit before (x ∷ xs) → Apart told_apart (x ∷ xs) → (OneOf a xs → OneOf b xs → Whole (dealt (n - x.left) xs)) → OneOf a (x ∷ xs) → OneOf b (x ∷ xs) → Whole (fill_of n x ∷ dealt (n - x.left) xs)
-  whole-next n x xs sorted told on (inl ea) (inl eb) h = absurd (never x (ap (before x) eb ∙ ap (λ v. before v b) ea ∙ front))
-  whole-next n x xs sorted told on (inl ea) (inr ib) h =
+  whole_next : (n : ℕ) (x : Order) (xs : List Order) → ByMerit before (x ∷ xs) → Apart told_apart (x ∷ xs) → (OneOf a xs → OneOf b xs → Whole (dealt (n - x.left) xs)) → OneOf a (x ∷ xs) → OneOf b (x ∷ xs) → Whole (fill_of n x ∷ dealt (n - x.left) xs)
+  whole_next n x xs sorted told on (inl ea) (inl eb) h = absurd (never x (ap (before x) eb ∙ ap (λ v. before v b) ea ∙ front))
+  whole_next n x xs sorted told on (inl ea) (inr ib) h =
       let P : Order → Type 0 = λ v. All (λ z. told_apart v z ≡ true) xs → Whole (fill_of n v ∷ dealt (n - v.left) xs) in
       subst P (sym ea) (λ away. whole_here n xs away ib) told.0 h
-  whole-next n x xs sorted told on (inr ia) (inl eb) h =
+  whole_next n x xs sorted told on (inr ia) (inl eb) h =
       absurd (never x (ranks.carries x a x (all_one (λ y. before x y ≡ true) a xs sorted.0 ia) (ap (before a) eb ∙ front)))
-  whole-next n x xs sorted told on (inr ia) (inr ib) h =
+  whole_next n x xs sorted told on (inr ia) (inr ib) h =
       passed n x xs a told.0 ia ∙ on ia ib (omega (arith, h, passed n x xs b told.0 ib))
 
   whole : (n : ℕ) (xs : List Order) → ByMerit before xs → Apart told_apart xs → OneOf a xs → OneOf b xs → Whole (dealt n xs)
@@ -116,12 +116,12 @@ module _ {before : Order → Order → Bool} (ranks : Ordering before told_apart
   whole n (x ∷ xs) sorted told ia ib =
       ⊎_elim
       (λ (z : n ≡ 0). λ h. absurd (omega (arith, h, ap (λ m. gained b.number (dealt m (x ∷ xs))) z, gained_zero b.number (x ∷ xs))))
-      (λ (s : n ≡ 0 → ⊥). rw (ne_eqb n 0 s) (whole-next n x xs sorted told (whole (n - x.left) xs sorted.1 told.1) ia ib))
+      (λ (s : n ≡ 0 → ⊥). rw (ne_eqb n 0 s) (whole_next n x xs sorted told (whole (n - x.left) xs sorted.1 told.1) ia ib))
       (cases_eq n 0)
 
 module _ {before : Order → Order → Bool} (ranks : Ordering before told_apart) (price trading : ℕ) (lines : List Order) (stand : Standing lines) where
-  side-turn : (side : Side) (a b : Order) → OneOf a (accepting side price lines) → OneOf b (accepting side price lines) → before a b ≡ true → 0 < gained b.number (fills_of before side price trading lines) → gained a.number (fills_of before side price trading lines) ≡ a.left
-  side-turn side a b ia ib front =
+  side_turn : (side : Side) (a b : Order) → OneOf a (accepting side price lines) → OneOf b (accepting side price lines) → before a b ≡ true → 0 < gained b.number (fills_of before side price trading lines) → gained a.number (fills_of before side price trading lines) ≡ a.left
+  side_turn side a b ia ib front =
       let all : List Order = accepting side price lines in
       let told : Apart told_apart all = kept_told side price (accepts side price) (λ x h. h) lines stand.apart in
       whole ranks a b front trading (ranked before all) (ranked_by_merit ranks all told) (ranked_apart before told_apart both_told all told) (one_ranked before a all ia) (one_ranked before b all ib)
@@ -131,30 +131,30 @@ module _ {before : Order → Order → Bool} (ranks : Ordering before told_apart
   across Buy = Sell
   across Sell = Buy
 
-  only-own : (side : Side) (x : Order) → OneOf x (accepting side price lines) → gained x.number (fills_of before (across side) price trading lines) ≡ 0
-  only-own Buy x i =
+  only_own : (side : Side) (x : Order) → OneOf x (accepting side price lines) → gained x.number (fills_of before (across side) price trading lines) ≡ 0
+  only_own Buy x i =
       let own = held_own x (accepting Buy price lines) (apart_kept other_number (accepts Buy price) lines stand.apart) i in
       let all = held_own x lines stand.apart (one_kept_of (accepts Buy price) x lines i) in
       omega (arith, own, all, held_both x.number price lines, fills_held before Sell price trading x.number lines)
-  only-own Sell x i =
+  only_own Sell x i =
       let own = held_own x (accepting Sell price lines) (apart_kept other_number (accepts Sell price) lines stand.apart) i in
       let all = held_own x lines stand.apart (one_kept_of (accepts Sell price) x lines i) in
       omega (arith, own, all, held_both x.number price lines, fills_held before Buy price trading x.number lines)
 
-  pub gained-all : (k : ℕ) → gained k (all_fills before price trading lines) ≡ gained k (fills_of before Buy price trading lines) + gained k (fills_of before Sell price trading lines)
-  gained-all k = sum_by-append (λ (f : Fill). cond (eqb f.number k) f.shares 0) (fills_of before Buy price trading lines) (fills_of before Sell price trading lines)
+  pub gained_all : (k : ℕ) → gained k (all_fills before price trading lines) ≡ gained k (fills_of before Buy price trading lines) + gained k (fills_of before Sell price trading lines)
+  gained_all k = sum_by-append (λ (f : Fill). cond (eqb f.number k) f.shares 0) (fills_of before Buy price trading lines) (fills_of before Sell price trading lines)
 
-  gained-own : (side : Side) (x : Order) → OneOf x (accepting side price lines) → gained x.number (all_fills before price trading lines) ≡ gained x.number (fills_of before side price trading lines)
-  gained-own Buy x i = omega (arith, gained-all x.number, only-own Buy x i)
-  gained-own Sell x i = omega (arith, gained-all x.number, only-own Sell x i)
+  gained_own : (side : Side) (x : Order) → OneOf x (accepting side price lines) → gained x.number (all_fills before price trading lines) ≡ gained x.number (fills_of before side price trading lines)
+  gained_own Buy x i = omega (arith, gained_all x.number, only_own Buy x i)
+  gained_own Sell x i = omega (arith, gained_all x.number, only_own Sell x i)
 
-  some-fills : (side : Side) → All (λ f. 0 < f.shares) (fills_of before side price trading lines)
-  some-fills side = some_dealt trading (ranked before (accepting side price lines)) (all_ranked before Line (accepting side price lines) (all_kept_by (accepts side price) Line lines stand.each))
+  some_fills : (side : Side) → All (λ f. 0 < f.shares) (fills_of before side price trading lines)
+  some_fills side = some_dealt trading (ranked before (accepting side price lines)) (all_ranked before Line (accepting side price lines) (all_kept_by (accepts side price) Line lines stand.each))
 
-  pub fills-fair : Fair before price trading lines
-  fills-fair = record {
+  pub fills_fair : Fair before price trading lines
+  fills_fair = record {
     exact = exactly before price trading lines;
-    in_turn = λ side a b ia ib front h. gained-own side a ia ∙ side-turn side a b ia ib front (omega (arith, h, gained-own side b ib));
-    most = λ x i. omega (arith, gained-all x.number, fills_held before Buy price trading x.number lines, fills_held before Sell price trading x.number lines, held_both x.number price lines, held_own x lines stand.apart i);
-    some = All-append (λ f. 0 < f.shares) (fills_of before Buy price trading lines) (fills_of before Sell price trading lines) (some-fills Buy) (some-fills Sell);
+    in_turn = λ side a b ia ib front h. gained_own side a ia ∙ side_turn side a b ia ib front (omega (arith, h, gained_own side b ib));
+    most = λ x i. omega (arith, gained_all x.number, fills_held before Buy price trading x.number lines, fills_held before Sell price trading x.number lines, held_both x.number price lines, held_own x lines stand.apart i);
+    some = All-append (λ f. 0 < f.shares) (fills_of before Buy price trading lines) (fills_of before Sell price trading lines) (some_fills Buy) (some_fills Sell);
   }

@@ -48,8 +48,8 @@ module _ (before : Order → Order → Bool) (lines : List Order) (side : Side) 
     pub room : count + length (waiting before side price last lines) ≤ length (accepting side price lines)
     pub long : length fills ≡ length entry
 
-  pub filling-none : (entry : List Fill) (trading : ℕ) → Filling entry entry trading None trading 0
-  filling-none entry trading = record { deals = refl; beyond = refl; room = omega arith; long = refl }
+  pub filling_none : (entry : List Fill) (trading : ℕ) → Filling entry entry trading None trading 0
+  filling_none entry trading = record { deals = refl; beyond = refl; room = omega arith; long = refl }
 
 -- the end, where nothing is left to deal or nobody waits
 pub record Filled (entry fills all : List Fill) (count : ℕ) : Type 0 where
@@ -66,41 +66,41 @@ module _ {before : Order → Order → Bool} (ranks : Ordering before told_apart
   after_on (Some z) x y h k = ranks.carries z x y h k
 
   -- behind x, those wait that waited before and come after x
-  waits-on : (last : Option Order) (x : Order) → waits before side price last x ≡ true → (y : Order) → (waits before side price last y && before x y) ≡ waits before side price (Some x) y
-  waits-on last x h y = and_then (after before last y) (accepts side price y) (before x y) (after_on last x y (and_parts (after before last x) (accepts side price x) h).0)
+  waits_on : (last : Option Order) (x : Order) → waits before side price last x ≡ true → (y : Order) → (waits before side price last y && before x y) ≡ waits before side price (Some x) y
+  waits_on last x h y = and_then (after before last y) (accepts side price y) (before x y) (after_on last x y (and_parts (after before last x) (accepts side price x) h).0)
 
   module _ (told : Apart other_number lines) (last : Option Order) (next : ℕ) (first : FirstEligible (waits before side price last) before lines (length lines) next) where
     x : Order
     x = get_or lines next free
 
     -- the next in the queue, and those behind it
-    queue-next : ranked before (waiting before side price last lines) ≡ x ∷ ranked before (waiting before side price (Some x) lines)
+    queue_next : ranked before (waiting before side price last lines) ≡ x ∷ ranked before (waiting before side price (Some x) lines)
     unfolding x
-    queue-next =
+    queue_next =
         let p : Order → Bool = waits before side price last in
         let among : OneOf x (filter p lines) = one_kept p x lines (first.1 free) (one_get_or lines next free first.0) in
         let none : All (λ y. before y x ≡ false) (filter p lines) = all_kept p (λ y. before y x ≡ false) lines (All-from_get_or (λ y. p y ≡ true → before y x ≡ false) lines free (λ k lt. first.2 k lt free)) in
         ranked_first ranks x (filter p lines) (kept_told side price p (λ y h. (and_parts (after before last y) (accepts side price y) h).1) lines told) among none
-        ∙ ap (λ zs. x ∷ ranked before zs) (kept_twice (before x) p (waits before side price (Some x)) (waits-on last x (first.1 free)) lines)
+        ∙ ap (λ zs. x ∷ ranked before zs) (kept_twice (before x) p (waits before side price (Some x)) (waits_on last x (first.1 free)) lines)
 
-    pub queue-shorter : length (waiting before side price last lines) ≡ suc (length (waiting before side price (Some (get_or lines next free)) lines))
+    pub queue_shorter : length (waiting before side price last lines) ≡ suc (length (waiting before side price (Some (get_or lines next free)) lines))
     unfolding x
-    queue-shorter =
-        sym (length-ranked before (waiting before side price last lines)) ∙ ap length queue-next
+    queue_shorter =
+        sym (length-ranked before (waiting before side price last lines)) ∙ ap length queue_next
         ∙ ap suc (length-ranked before (waiting before side price (Some x) lines))
 
-    pub filling-more : (entry fills : List Fill) (trading rest count : ℕ) → Filling before lines side price entry fills trading last rest count → length (accepting side price lines) ≤ length entry → 0 < rest → Filling before lines side price entry (set fills count (record { number = (get_or lines next free).number; shares = min rest (get_or lines next free).left })) trading (Some (get_or lines next free)) (rest - min rest (get_or lines next free).left) (count + 1)
+    pub filling_more : (entry fills : List Fill) (trading rest count : ℕ) → Filling before lines side price entry fills trading last rest count → length (accepting side price lines) ≤ length entry → 0 < rest → Filling before lines side price entry (set fills count (record { number = (get_or lines next free).number; shares = min rest (get_or lines next free).left })) trading (Some (get_or lines next free)) (rest - min rest (get_or lines next free).left) (count + 1)
     unfolding x
-    filling-more entry fills trading rest count h short some =
+    filling_more entry fills trading rest count h short some =
         let f : Fill = record { number = x.number; shares = min rest x.left } in
-        let shorter = queue-shorter in
+        let shorter = queue_shorter in
         let room = h.room in
         let long = h.long in
         let inside : count < length fills = omega arith in
         let left : rest - min rest x.left ≡ rest - x.left = omega arith in
         let behind : List Order = ranked before (waiting before side price (Some x) lines) in
         let deal : dealt rest (ranked before (waiting before side price last lines)) ≡ f ∷ dealt (rest - x.left) behind =
-        ap (dealt rest) queue-next ∙ rw (ne_eqb rest 0 (omega arith)) in
+        ap (dealt rest) queue_next ∙ rw (ne_eqb rest 0 (omega arith)) in
         record {
           deals = rw left (rw (take_more_set fills count f inside) (append_assoc (take count fills) (f ∷ []) (dealt (rest - x.left) behind) ∙ ap (λ zs. take count fills ++ zs) (sym deal) ∙ h.deals));
           beyond = drop-set-lt (count + 1) fills count f (omega arith) ∙ sym (drop-drop 1 count fills) ∙ ap (drop 1) h.beyond ∙ drop-drop 1 count entry;
@@ -119,8 +119,8 @@ module _ {before : Order → Order → Bool} (ranks : Ordering before told_apart
           fills_are = sym (take-append-drop count fills) ∙ ap (λ zs. zs ++ drop count fills) all ∙ ap (λ zs. fills_of before side price trading lines ++ zs) h.beyond;
         }
 
-    pub filled-dealt : rest ≡ 0 → Filled entry fills (fills_of before side price trading lines) count
-    filled-dealt z = filled (rw z (dealt_none (ranked before (waiting before side price last lines))))
+    pub filled_dealt : rest ≡ 0 → Filled entry fills (fills_of before side price trading lines) count
+    filled_dealt z = filled (rw z (dealt_none (ranked before (waiting before side price last lines))))
 
     pub filled_none : NoneEligible (waits before side price last) lines (length lines) → Filled entry fills (fills_of before side price trading lines) count
     filled_none nobody =

@@ -9,7 +9,7 @@ use Rattle.book.specs.Ranked.{OneOf}
 use Rattle.book.specs.declared.order.Order.{Order}
 use Rattle.book.specs.declared.order.Side.{Side}
 use Rattle.book.specs.declared.order.Side.TheVariants.{Buy, Sell}
-use Rattle.book.proofs.Fairness.{fills-fair, gained-all}
+use Rattle.book.proofs.Fairness.{fills_fair, gained_all}
 use Rattle.book.proofs.Orderings.{Ordering}
 use Rattle.book.proofs.Rankings.{one_kept}
 use Rattle.book.proofs.Sides.{fills_held, held_lost}
@@ -24,21 +24,21 @@ better_accepts Buy price a b h k = search rules
 better_accepts Sell price a b h k = search rules
 
 module _ (price trading : ℕ) (lines : List Order) (stand : Standing lines) (a b : Order) (ia : OneOf a lines) (ib : OneOf b lines) (front : ahead a b ≡ true) (gains : 0 < gained b.number (all_fills ahead price trading lines)) where
-  on-side : (side : Side) → accepts side price b ≡ true → gained a.number (all_fills ahead price trading lines) ≡ a.left
-  on-side side h =
-      (fills-fair price_time price trading lines stand).in_turn side a b
+  on_side_lem : (side : Side) → accepts side price b ≡ true → gained a.number (all_fills ahead price trading lines) ≡ a.left
+  on_side_lem side h =
+      (fills_fair price_time price trading lines stand).in_turn side a b
       (one_kept (accepts side price) a lines (better_accepts side price a b front h) ia) (one_kept (accepts side price) b lines h ib) front gains
 
-  filled-whole : gained a.number (all_fills ahead price trading lines) ≡ a.left
-  filled-whole =
+  filled_whole : gained a.number (all_fills ahead price trading lines) ≡ a.left
+  filled_whole =
       ⊎_elim
-      (on-side Buy)
+      (on_side_lem Buy)
       (λ (not-buy : accepts Buy price b ≡ false). ⊎_elim
-      (on-side Sell)
+      (on_side_lem Sell)
       (λ (not-sell : accepts Sell price b ≡ false). absurd (omega (
         arith,
         gains,
-        gained-all price_time price trading lines stand b.number,
+        gained_all price_time price trading lines stand b.number,
         fills_held ahead Buy price trading b.number lines,
         fills_held ahead Sell price trading b.number lines,
         held_lost (accepts Buy price) b lines stand.apart ib not-buy,
@@ -48,4 +48,4 @@ module _ (price trading : ℕ) (lines : List Order) (stand : Standing lines) (a 
       (cases_Bool (accepts Buy price b))
 
 pub priority_kept : PriorityKept
-priority_kept next price trading lines book a b ia ib front gains = filled-whole price trading lines (book_stands next lines book) a b ia ib front gains
+priority_kept next price trading lines book a b ia ib front gains = filled_whole price trading lines (book_stands next lines book) a b ia ib front gains

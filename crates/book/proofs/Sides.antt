@@ -15,10 +15,10 @@ use Rattle.book.proofs.Rankings.{all_one, length-ranked, sum_by-ranked}
 
 -- ---- two filters of which no item passes both
 module _ {X : Type 0} (p q : X → Bool) (apart : (x : X) → p x ≡ true → q x ≡ true → ⊥) (f : X → ℕ) where
-  pub both-kept : (xs : List X) → sum_by f (filter p xs) + sum_by f (filter q xs) ≤ sum_by f xs
-  both-kept [] = omega arith
-  both-kept (x ∷ xs) =
-      let rest = both-kept xs in
+  pub both_kept : (xs : List X) → sum_by f (filter p xs) + sum_by f (filter q xs) ≤ sum_by f xs
+  both_kept [] = omega arith
+  both_kept (x ∷ xs) =
+      let rest = both_kept xs in
       let total = sum_by-cons f x xs in
       ⊎_elim
       (λ (yp : p x ≡ true). ⊎_elim
@@ -42,7 +42,7 @@ one_side price x b s =
 
 pub accepting_length : (price : ℕ) (lines : List Order) → length (accepting Buy price lines) + length (accepting Sell price lines) ≤ length lines
 accepting_length price lines =
-    omega (arith, length_sum lines, length_sum (accepting Buy price lines), length_sum (accepting Sell price lines), both-kept (accepts Buy price) (accepts Sell price) (one_side price) (λ _. 1) lines)
+    omega (arith, length_sum lines, length_sum (accepting Buy price lines), length_sum (accepting Sell price lines), both_kept (accepts Buy price) (accepts Sell price) (one_side price) (λ _. 1) lines)
 
 dealt_length : (n : ℕ) (xs : List Order) → length (dealt n xs) ≤ length xs
 dealt_length n [] = omega arith
@@ -91,7 +91,7 @@ held_lost p x (y ∷ ys) told (inr i) off =
     cond_both (p y) (y ∷ filter p ys) (filter p ys) (λ zs. held x.number zs ≡ 0) (λ _. held_cons x.number y (filter p ys) ∙ rw other (omega arith)) (λ _. rest)
 
 pub held_both : (k price : ℕ) (lines : List Order) → held k (accepting Buy price lines) + held k (accepting Sell price lines) ≤ held k lines
-held_both k price lines = both-kept (accepts Buy price) (accepts Sell price) (one_side price) (λ x. cond (eqb x.number k) x.left 0) lines
+held_both k price lines = both_kept (accepts Buy price) (accepts Sell price) (one_side price) (λ x. cond (eqb x.number k) x.left 0) lines
 
 -- no more is dealt to the orders of a number than they have left
 dealt_held : (k n : ℕ) (xs : List Order) → gained k (dealt n xs) ≤ held k xs

@@ -14,19 +14,19 @@ use Rattle.book.specs.declared.order.Order.{Order}
 
 -- ---- the loop over the lines
 module _ (last next : ℕ) (lines : List Order) (i : ℕ) where
-  standing-more : i < length lines → standing last next (drop i lines) ≡ (may_follow last next (get_or lines i free) && standing (get_or lines i free).number next (drop (i + 1) lines))
+  standing_more : i < length lines → standing last next (drop i lines) ≡ (may_follow last next (get_or lines i free) && standing (get_or lines i free).number next (drop (i + 1) lines))
   unfolding standing
-  standing-more lt = at_drop_more (standing last next) lines i free lt
+  standing_more lt = at_drop_more (standing last next) lines i free lt
 
   pub standing_on : i < length lines → may_follow last next (get_or lines i free) ≡ true → standing last next (drop i lines) ≡ standing (get_or lines i free).number next (drop (i + 1) lines)
-  standing_on lt h = standing-more lt ∙ ap (λ t. t && standing (get_or lines i free).number next (drop (i + 1) lines)) h
+  standing_on lt h = standing_more lt ∙ ap (λ t. t && standing (get_or lines i free).number next (drop (i + 1) lines)) h
 
-  pub standing-stops : i < length lines → may_follow last next (get_or lines i free) ≡ false → standing last next (drop i lines) ≡ false
-  standing-stops lt h = standing-more lt ∙ ap (λ t. t && standing (get_or lines i free).number next (drop (i + 1) lines)) h
+  pub standing_stops : i < length lines → may_follow last next (get_or lines i free) ≡ false → standing last next (drop i lines) ≡ false
+  standing_stops lt h = standing_more lt ∙ ap (λ t. t && standing (get_or lines i free).number next (drop (i + 1) lines)) h
 
-  pub standing-all : length lines ≤ i → standing last next (drop i lines) ≡ true
+  pub standing_all : length lines ≤ i → standing last next (drop i lines) ≡ true
   unfolding standing
-  standing-all past = at_drop_all (standing last next) lines i past
+  standing_all past = at_drop_all (standing last next) lines i past
 
 -- ---- what a book's lines are
 pub record Line (x : Order) : Type 0 where

@@ -16,8 +16,8 @@ start_on r s low high m =
     grind (arith, nat_tests)
 
 module _ (c : ℕ) (low : 0 < c) (high : c ≤ 6) where
-  start-in : (r : ℕ) → 0 < r → r < 19 → In (banded c) (start r)
-  start-in r some last =
+  start_in : (r : ℕ) → 0 < r → r < 19 → In (banded c) (start r)
+  start_in r some last =
       let e = row_of_start r last in
       let m : start r % step_of (row_of (start r)) c ≡ 0 = rw e (fits_at r c last low high).at_start in
       start_on r (step_of (row_of (start r)) c) some last m
@@ -27,8 +27,8 @@ module _ (c : ℕ) (low : 0 < c) (high : c ≤ 6) where
   same_row p k e = ap (λ (r : ℕ). multiples (step_of r c) k) (sym e)
 
   -- past its ends, the way leads over where a row starts
-  alike-above : (p k : ℕ) → p ≤ k → (multiples (step_of (row_of p) c) k ≡ banded c k) ⊎ Detour (λ a b. a ≤ b) (multiples (step_of (row_of p) c)) (banded c) p k
-  alike-above p k le =
+  alike_above : (p k : ℕ) → p ≤ k → (multiples (step_of (row_of p) c) k ≡ banded c k) ⊎ Detour (λ a b. a ≤ b) (multiples (step_of (row_of p) c)) (banded c) p k
+  alike_above p k le =
       let a = row_in p in
       let b = row_in k in
       ⊎_elim
@@ -42,12 +42,12 @@ module _ (c : ℕ) (low : 0 < c) (high : c ≤ 6) where
         from = omega (arith, a.high (omega arith));
         to = omega (arith, start_mono (suc (row_of p)) (row_of k) gt (omega (arith, b.row)), b.low);
         this = start_on (suc (row_of p)) (step_of (row_of p) c) (omega arith) more (fits_at (row_of p) c a.row low high).at_end;
-        that = start-in (suc (row_of p)) (omega arith) more;
+        that = start_in (suc (row_of p)) (omega arith) more;
       })))
       (cases_order (row_of k) (row_of p))
 
-  alike-below : (p k : ℕ) → k ≤ p → (multiples (step_of (row_of p) c) k ≡ banded c k) ⊎ Detour (λ a b. b ≤ a) (multiples (step_of (row_of p) c)) (banded c) p k
-  alike-below p k le =
+  alike_below : (p k : ℕ) → k ≤ p → (multiples (step_of (row_of p) c) k ≡ banded c k) ⊎ Detour (λ a b. b ≤ a) (multiples (step_of (row_of p) c)) (banded c) p k
+  alike_below p k le =
       let a = row_in p in
       let b = row_in k in
       ⊎_elim
@@ -59,13 +59,13 @@ module _ (c : ℕ) (low : 0 < c) (high : c ≤ 6) where
         from = a.low;
         to = omega (arith, row_below k p (row_of k) (row_of p) b a lt);
         this = start_on (row_of p) (step_of (row_of p) c) (omega arith) a.row (fits_at (row_of p) c a.row low high).at_start;
-        that = start-in (row_of p) (omega arith) a.row;
+        that = start_in (row_of p) (omega arith) a.row;
       }))
       (λ (gt : row_of p < row_of k). absurd (omega (arith, row_below p k (row_of p) (row_of k) a b gt, b.low))))
       (cases_order (row_of k) (row_of p))
 
-  pub lowest-moves : (p : ℕ) (r : Option ℕ) → Lowest (multiples (step_of (row_of p) c)) p r → Lowest (banded c) p r
-  lowest-moves p = nearest_moves (λ a b. a ≤ b) upward (multiples (step_of (row_of p) c)) (banded c) p (alike-above p)
+  pub lowest_moves : (p : ℕ) (r : Option ℕ) → Lowest (multiples (step_of (row_of p) c)) p r → Lowest (banded c) p r
+  lowest_moves p = nearest_moves (λ a b. a ≤ b) upward (multiples (step_of (row_of p) c)) (banded c) p (alike_above p)
 
-  pub highest-moves : (p : ℕ) (r : Option ℕ) → Highest (multiples (step_of (row_of p) c)) p r → Highest (banded c) p r
-  highest-moves p = nearest_moves (λ a b. b ≤ a) downward (multiples (step_of (row_of p) c)) (banded c) p (alike-below p)
+  pub highest_moves : (p : ℕ) (r : Option ℕ) → Highest (multiples (step_of (row_of p) c)) p r → Highest (banded c) p r
+  highest_moves p = nearest_moves (λ a b. b ≤ a) downward (multiples (step_of (row_of p) c)) (banded c) p (alike_below p)

@@ -1,5 +1,5 @@
-use Rattle.auction.proofs.Answering.{auction-is, one-auction, any-range}
+use Rattle.auction.proofs.Answering.{auction_is, one_auction, any_range}
 use Rattle.auction.proofs.laws.auction_laws.Goals as goal
 
 pub returns : goal.returns
-returns c = record { search = auction-is; one = one-auction; any = any-range }
+returns c = record { search = auction_is; one = one_auction; any = any_range }

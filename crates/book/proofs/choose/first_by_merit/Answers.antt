@@ -1,6 +1,6 @@
 use Rattle.std.proofs.Common.{◌≡◌, sym, ◌∙◌}
 use Rattle.book.proofs.Orderings.{Ordering}
-use Rattle.book.proofs.Choosing.{leads, leads-some, chosen-takes, chosen-keeps, chosen-refuses}
+use Rattle.book.proofs.Choosing.{leads, leads_some, chosen_takes, chosen_keeps, chosen_refuses}
 use Rattle.book.proofs.choose.first_by_merit.Goals as goal
 use Rattle.book.proofs.choose.first_by_merit.Goals.{in-Some, in-None, then-leads+then-passes, else-leads, else-leads-via-then-leads+else-passes, else-leads-via-else-leads}
 
@@ -19,14 +19,14 @@ loop-i-preserved g c =
     let inv = c.loop-i.invariant in
     let led : c.match-first.leads ≡ leads before items x first =
     elim c.match-first.branch [
-      | in-Some w ↦ w.leads-is ∙ w.comes-before-leads.ensures ∙ leads-some eligible ranks items _ x within read first _ _ w.in-Some.is inv w.index-items-best.is
+      | in-Some w ↦ w.leads-is ∙ w.comes-before-leads.ensures ∙ leads_some eligible ranks items _ x within read first _ _ w.in-Some.is inv w.index-items-best.is
       | in-None w ↦ rw w.in-None.is w.leads-is
     ] in
     let same : c.match-first.first ≡ first = elim c.match-first.branch [ in-Some w ↦ w.first-is ∙ sym w.in-Some.is | in-None w ↦ w.first-is ] in
     elim c.if-leads.branch [
-      | then-leads+then-passes w ↦ rw w.first-is (chosen-takes eligible ranks items _ x within read first inv (sym led ∙ w.if-leads.true) (sym w.if-passes.ensures))
+      | then-leads+then-passes w ↦ rw w.first-is (chosen_takes eligible ranks items _ x within read first inv (sym led ∙ w.if-leads.true) (sym w.if-passes.ensures))
       | else-leads w ↦ rw (w.first-is, same) (elim w.else-leads.branch [
-        | else-leads-via-then-leads+else-passes v ↦ chosen-refuses eligible ranks items _ x within read first inv (sym v.if-passes.ensures)
-        | else-leads-via-else-leads v ↦ chosen-keeps eligible ranks items _ x within read first inv (sym led ∙ v.if-leads.false)
+        | else-leads-via-then-leads+else-passes v ↦ chosen_refuses eligible ranks items _ x within read first inv (sym v.if-passes.ensures)
+        | else-leads-via-else-leads v ↦ chosen_keeps eligible ranks items _ x within read first inv (sym led ∙ v.if-leads.false)
       ])
     ]

@@ -1,27 +1,27 @@
 use Rattle.std.proofs.Common.{arith}
 use Rattle.std.proofs.lemmas.List.{take_all}
 use Rattle.book.specs.declared.order.Side.TheVariants.{Buy, Sell}
-use Rattle.book.proofs.Depths.{depth-more, depth-fits}
+use Rattle.book.proofs.Depths.{depth_more, depth_fits}
 use Rattle.book.proofs.Standing.{book_stands}
 use Rattle.book.proofs.sound.Book.depth.Goals as goal
 
 pub overflow-add-bid : goal.overflow-add-bid
 overflow-add-bid c =
     let book = c.args.self.now in
-    let le = depth-fits Buy c.args.price book.lines.now c.loop-line.line-index c.loop-line.bid c.shares-at-bid.result c.loop-line-test.true c.loop-line.invariant.0 c.shares-at-bid.ensures (book_stands book.next book.lines.now book.sound) in
+    let le = depth_fits Buy c.args.price book.lines.now c.loop-line.line-index c.loop-line.bid c.shares-at-bid.result c.loop-line-test.true c.loop-line.invariant.0 c.shares-at-bid.ensures (book_stands book.next book.lines.now book.sound) in
     omega arith
 
 pub overflow-add-offered : goal.overflow-add-offered
 overflow-add-offered c =
     let book = c.args.self.now in
-    let le = depth-fits Sell c.args.price book.lines.now c.loop-line.line-index c.loop-line.offered c.shares-at-offered.result c.loop-line-test.true c.loop-line.invariant.1 c.shares-at-offered.ensures (book_stands book.next book.lines.now book.sound) in
+    let le = depth_fits Sell c.args.price book.lines.now c.loop-line.line-index c.loop-line.offered c.shares-at-offered.result c.loop-line-test.true c.loop-line.invariant.1 c.shares-at-offered.ensures (book_stands book.next book.lines.now book.sound) in
     omega arith
 
 pub loop-line-preserved : goal.loop-line-preserved
 loop-line-preserved c =
     let lines = c.args.self.now.lines.now in (
-      depth-more Buy c.args.price lines c.loop-line.line-index _ _ c.loop-line-test.true c.loop-line.invariant.0 c.shares-at-bid.ensures,
-      depth-more Sell c.args.price lines c.loop-line.line-index _ _ c.loop-line-test.true c.loop-line.invariant.1 c.shares-at-offered.ensures,
+      depth_more Buy c.args.price lines c.loop-line.line-index _ _ c.loop-line-test.true c.loop-line.invariant.0 c.shares-at-bid.ensures,
+      depth_more Sell c.args.price lines c.loop-line.line-index _ _ c.loop-line-test.true c.loop-line.invariant.1 c.shares-at-offered.ensures,
     )
 
 pub returns : goal.returns

@@ -3,7 +3,7 @@ use Rattle.std.proofs.lemmas.List.{length-append, length-drop, take_rest}
 use Rattle.book.specs.Fills.{fills_of}
 use Rattle.book.specs.Orders.{told_apart}
 use Rattle.book.specs.declared.order.Side.TheVariants.{Buy, Sell}
-use Rattle.book.proofs.Fairness.{fills-fair}
+use Rattle.book.proofs.Fairness.{fills_fair}
 use Rattle.book.proofs.Orderings.{Ordering}
 use Rattle.book.proofs.Recording.{both_written}
 use Rattle.book.proofs.Sides.{accepting_length, fills_length}
@@ -42,5 +42,5 @@ returns g c =
     record {
       count = omega (arith, length-append a b, c.fill-side-bought.ensures.count, c.fill-side-sold.ensures.count);
       written = both_written c.args.fills.now c.fill-side-bought.new.fills c.fill-side-sold.new.fills a b c.fill-side-bought.result c.fill-side-sold.result c.fill-side-bought.ensures.count c.fill-side-sold.ensures.count c.fill-side-bought.ensures.written c.fill-side-sold.ensures.written;
-      fair = fills-fair ranks c.args.price c.args.trading lines (book_stands book.next lines book.sound);
+      fair = fills_fair ranks c.args.price c.args.trading lines (book_stands book.next lines book.sound);
     }

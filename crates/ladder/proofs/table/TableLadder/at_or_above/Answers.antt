@@ -1,11 +1,11 @@
 use Rattle.std.proofs.Common.{ℕ, subst}
 use Rattle.ladder.specs.Rungs.{Lowest}
 use Rattle.ladder.specs.Multiples.{multiples}
-use Rattle.ladder.proofs.Bandings.{lowest-moves}
+use Rattle.ladder.proofs.Bandings.{lowest_moves}
 use Rattle.ladder.proofs.table.TableLadder.at_or_above.Goals as goal
 
 pub returns : goal.returns
 returns c =
     let t = c.args.self.now in
-    lowest-moves t.band t.low t.high c.args.p c.at-or-above.result
+    lowest_moves t.band t.low t.high c.args.p c.at-or-above.result
     (subst (λ (step : ℕ). Lowest (multiples step) c.args.p c.at-or-above.result) c.multiples-at.ensures c.at-or-above.ensures)
