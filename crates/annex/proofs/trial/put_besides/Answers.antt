@@ -9,7 +9,7 @@ loop-i-init c = besides_none c.args.given.now c.args.held.now (string_bytes c.ar
 pub loop-i-preserved : goal.loop-i-preserved
 loop-i-preserved c =
     besides_more c.loop-i.i c.args.given.now c.args.held.now (string_bytes c.args.out.now) (string_bytes c.loop-i.out) _
-    c.loop-i.invariant c.in-ok-put-beside.ensures
+    c.loop-i.invariant c.in_ok-put_beside.ensures
 
 pub returns : goal.returns
 returns c =

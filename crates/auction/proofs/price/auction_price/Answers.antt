@@ -6,8 +6,8 @@ use Rattle.auction.proofs.Improving.{none_searched, one_searched, all_searched}
 use Rattle.auction.proofs.Passing.{best_trades_most, best_tied, best_can_trade}
 use Rattle.auction.proofs.price.auction_price.Goals as goal
 
-pub around-turn-requires : goal.around-turn-requires
-around-turn-requires g c =
+pub around_turn-requires : goal.around_turn-requires
+around_turn-requires g c =
     let book = c.args.book.now in
     (All-get_or Line book.lines.now c.loop-line.line-index free c.loop-line-test.true (book_stands book.next book.lines.now book.sound).each).priced
 
@@ -17,7 +17,7 @@ loop-line-init g c =
 
 pub loop-line-preserved : goal.loop-line-preserved
 loop-line-preserved g c =
-    let ends = c.around-turn in
+    let ends = c.around_turn in
     one_searched (g.L.Ladder.rungs c.args.ladder.now) c.args.book.now.lines.now c.args.reference c.loop-line.line-index c.loop-line.best c.improved-best-in-loop-line.result ends.result.low ends.result.high
     c.loop-line-test.true ends.ensures.low ends.ensures.high c.loop-line.invariant c.improved-best-in-loop-line.ensures
 

@@ -19,7 +19,7 @@ loop-i-preserved g c =
     let inv = c.loop-i.invariant in
     let led : c.match-first.leads ≡ leads before items x first =
     elim c.match-first.branch [
-      | in-Some w ↦ w.leads-is ∙ w.comes-before-leads.ensures ∙ leads_some eligible ranks items _ x within read first _ _ w.in-Some.is inv w.index-items-best.is
+      | in-Some w ↦ w.leads-is ∙ w.comes_before-leads.ensures ∙ leads_some eligible ranks items _ x within read first _ _ w.in-Some.is inv w.index-items-best.is
       | in-None w ↦ rw w.in-None.is w.leads-is
     ] in
     let same : c.match-first.first ≡ first = elim c.match-first.branch [ in-Some w ↦ w.first-is ∙ sym w.in-Some.is | in-None w ↦ w.first-is ] in

@@ -31,7 +31,7 @@ returns-after-loop-rest g c =
     let done = filled_dealt (ranks g c.args.merit.now) c.args.lines.now c.args.side c.args.price c.args.fills.now c.loop-rest.fills c.args.trading c.loop-rest.last c.loop-rest.rest c.loop-rest.count c.loop-rest.invariant c.requires.room (omega arith) in
     record { within = omega (arith, c.loop-rest.invariant.room, c.requires.room); count = done.count_is; written = done.fills_are }
 
-pub returns-in-default : goal.returns-in-default
-returns-in-default g c =
-    let done = filled_none (ranks g c.args.merit.now) c.args.lines.now c.args.side c.args.price c.args.fills.now c.loop-rest.fills c.args.trading c.loop-rest.last c.loop-rest.rest c.loop-rest.count c.loop-rest.invariant c.requires.room c.in-default.ensures in
+pub returns-in_default : goal.returns-in_default
+returns-in_default g c =
+    let done = filled_none (ranks g c.args.merit.now) c.args.lines.now c.args.side c.args.price c.args.fills.now c.loop-rest.fills c.args.trading c.loop-rest.last c.loop-rest.rest c.loop-rest.count c.loop-rest.invariant c.requires.room c.in_default.ensures in
     record { within = omega (arith, c.loop-rest.invariant.room, c.requires.room); count = done.count_is; written = done.fills_are }

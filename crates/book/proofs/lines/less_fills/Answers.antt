@@ -15,7 +15,7 @@ loop-fill-preserved c =
     let f : Fill = get_or fills i (record { number = 0; shares = 0 }) in
     let step = sum_by_more (λ (x : Fill). cond (eqb x.number k) x.shares 0) fills i (record { number = 0; shares = 0 }) c.loop-fill-test.true in
     elim c.if-fill-number.branch [
-      | then-fill-number w ↦ omega (arith, w.rest-is, w.saturating-sub-rest.ensures, c.loop-fill.invariant, step ∙ ap (λ t. gained k (take i fills) + cond t f.shares 0) (eq-eqb f.number k w.if-fill-number.true))
+      | then-fill-number w ↦ omega (arith, w.rest-is, w.saturating_sub-rest.ensures, c.loop-fill.invariant, step ∙ ap (λ t. gained k (take i fills) + cond t f.shares 0) (eq-eqb f.number k w.if-fill-number.true))
       | else-fill-number w ↦ omega (arith, w.rest-is, c.loop-fill.invariant, step ∙ ap (λ t. gained k (take i fills) + cond t f.shares 0) (ne_eqb f.number k w.if-fill-number.false))
     ]
 

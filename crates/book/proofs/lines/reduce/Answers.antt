@@ -10,7 +10,7 @@ loop-line-preserved c =
     let i = c.loop-line.line-index in
     let ys = c.loop-line.lines in
     let x = get_or ys i free in
-    rw c.less-fills-line.ensures (map_over_more (less_fills c.args.fills.now) c.args.lines.now ys i x (omega arith) c.loop-line.invariant (get_or_default ys i free x (omega arith)))
+    rw c.less_fills-line.ensures (map_over_more (less_fills c.args.fills.now) c.args.lines.now ys i x (omega arith) c.loop-line.invariant (get_or_default ys i free x (omega arith)))
 
 pub returns : goal.returns
 returns c =

@@ -7,8 +7,8 @@ pub loop-row-init : goal.loop-row-init
 unfolding row_of
 loop-row-init c = (omega arith, refl)
 
-pub returns-then-row-start-p : goal.returns-then-row-start-p
-returns-then-row-start-p c =
+pub returns-then-row_start-p : goal.returns-then-row_start-p
+returns-then-row_start-p c =
     let i = c.loop-row.row - 1 in
     (sym (c.loop-row.invariant.1 ∙ row_hit i c.args.p (omega arith) (omega arith)), omega arith)
 

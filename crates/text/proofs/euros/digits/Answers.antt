@@ -8,15 +8,15 @@ use Rattle.std.proofs.lemmas.Str.{digit_value_digit}
 use Rattle.text.proofs.Numbers.{own, digits_read, other_byte, front_small}
 use Rattle.text.proofs.euros.digits.Goals as goal
 
-pub returns-then-not-is-ascii-digit : goal.returns-then-not-is-ascii-digit
-returns-then-not-is-ascii-digit c =
-    record { value = sym (other_byte c.args.most c.args.text.now c.loop-byte.byte-index c.loop-byte-test.true (λ digit. omega (arith, c.if-not-is-ascii-digit.ensures.cases))); small = tt }
+pub returns-then-not-is_ascii_digit : goal.returns-then-not-is_ascii_digit
+returns-then-not-is_ascii_digit c =
+    record { value = sym (other_byte c.args.most c.args.text.now c.loop-byte.byte-index c.loop-byte-test.true (λ digit. omega (arith, c.if-not-is_ascii_digit.ensures.cases))); small = tt }
 
 pub loop-byte-preserved : goal.loop-byte-preserved
 loop-byte-preserved c =
     let text = c.args.text.now in
     let i = c.loop-byte.byte-index in
-    let test = c.if-not-is-ascii-digit.ensures in
+    let test = c.if-not-is_ascii_digit.ensures in
     let all = digits_more 10 text i (omega arith) c.loop-byte.invariant.0 test.bound in
     let more = digits_value_more 10 text i (omega arith) in
     let digit = digit_value_digit (get_or text i 0) test.cases in

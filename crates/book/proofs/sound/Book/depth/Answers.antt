@@ -5,23 +5,23 @@ use Rattle.book.proofs.Depths.{depth_more, depth_fits}
 use Rattle.book.proofs.Standing.{book_stands}
 use Rattle.book.proofs.sound.Book.depth.Goals as goal
 
-pub overflow-add-bid : goal.overflow-add-bid
-overflow-add-bid c =
+pub overflow_add-bid : goal.overflow_add-bid
+overflow_add-bid c =
     let book = c.args.self.now in
-    let le = depth_fits Buy c.args.price book.lines.now c.loop-line.line-index c.loop-line.bid c.shares-at-bid.result c.loop-line-test.true c.loop-line.invariant.0 c.shares-at-bid.ensures (book_stands book.next book.lines.now book.sound) in
+    let le = depth_fits Buy c.args.price book.lines.now c.loop-line.line-index c.loop-line.bid c.shares_at-bid.result c.loop-line-test.true c.loop-line.invariant.0 c.shares_at-bid.ensures (book_stands book.next book.lines.now book.sound) in
     omega arith
 
-pub overflow-add-offered : goal.overflow-add-offered
-overflow-add-offered c =
+pub overflow_add-offered : goal.overflow_add-offered
+overflow_add-offered c =
     let book = c.args.self.now in
-    let le = depth_fits Sell c.args.price book.lines.now c.loop-line.line-index c.loop-line.offered c.shares-at-offered.result c.loop-line-test.true c.loop-line.invariant.1 c.shares-at-offered.ensures (book_stands book.next book.lines.now book.sound) in
+    let le = depth_fits Sell c.args.price book.lines.now c.loop-line.line-index c.loop-line.offered c.shares_at-offered.result c.loop-line-test.true c.loop-line.invariant.1 c.shares_at-offered.ensures (book_stands book.next book.lines.now book.sound) in
     omega arith
 
 pub loop-line-preserved : goal.loop-line-preserved
 loop-line-preserved c =
     let lines = c.args.self.now.lines.now in (
-      depth_more Buy c.args.price lines c.loop-line.line-index _ _ c.loop-line-test.true c.loop-line.invariant.0 c.shares-at-bid.ensures,
-      depth_more Sell c.args.price lines c.loop-line.line-index _ _ c.loop-line-test.true c.loop-line.invariant.1 c.shares-at-offered.ensures,
+      depth_more Buy c.args.price lines c.loop-line.line-index _ _ c.loop-line-test.true c.loop-line.invariant.0 c.shares_at-bid.ensures,
+      depth_more Sell c.args.price lines c.loop-line.line-index _ _ c.loop-line-test.true c.loop-line.invariant.1 c.shares_at-offered.ensures,
     )
 
 pub returns : goal.returns

@@ -10,23 +10,23 @@ use Rattle.book.proofs.Sides.{accepting_length, fills_length}
 use Rattle.book.proofs.Standing.{book_stands}
 use Rattle.book.proofs.sound.Book.fill_both.Goals as goal
 
-pub fill-side-bought-requires : goal.fill-side-bought-requires
-fill-side-bought-requires g c =
+pub fill_side-bought-requires : goal.fill_side-bought-requires
+fill_side-bought-requires g c =
     let book = c.args.self.now in
     record {
       apart = (book_stands book.next book.lines.now book.sound).apart;
       room = omega (arith, accepting_length c.args.price book.lines.now);
     }
 
-pub fill-side-sold-requires : goal.fill-side-sold-requires
-fill-side-sold-requires g c =
+pub fill_side-sold-requires : goal.fill_side-sold-requires
+fill_side-sold-requires g c =
     let book = c.args.self.now in
     let lines = book.lines.now in
-    let m = c.fill-side-bought.result in
+    let m = c.fill_side-bought.result in
     let few = fills_length (g.M.Merit.before c.args.merit.now) Buy c.args.price c.args.trading lines in
     record {
       apart = (book_stands book.next lines book.sound).apart;
-      room = rw (take_rest c.fill-side-bought.new.fills m) (omega (arith, few, length-drop m c.fill-side-bought.new.fills, accepting_length c.args.price lines));
+      room = rw (take_rest c.fill_side-bought.new.fills m) (omega (arith, few, length-drop m c.fill_side-bought.new.fills, accepting_length c.args.price lines));
     }
 
 pub returns : goal.returns
@@ -40,7 +40,7 @@ returns g c =
     let a = fills_of before Buy c.args.price c.args.trading lines in
     let b = fills_of before Sell c.args.price c.args.trading lines in
     record {
-      count = omega (arith, length-append a b, c.fill-side-bought.ensures.count, c.fill-side-sold.ensures.count);
-      written = both_written c.args.fills.now c.fill-side-bought.new.fills c.fill-side-sold.new.fills a b c.fill-side-bought.result c.fill-side-sold.result c.fill-side-bought.ensures.count c.fill-side-sold.ensures.count c.fill-side-bought.ensures.written c.fill-side-sold.ensures.written;
+      count = omega (arith, length-append a b, c.fill_side-bought.ensures.count, c.fill_side-sold.ensures.count);
+      written = both_written c.args.fills.now c.fill_side-bought.new.fills c.fill_side-sold.new.fills a b c.fill_side-bought.result c.fill_side-sold.result c.fill_side-bought.ensures.count c.fill_side-sold.ensures.count c.fill_side-bought.ensures.written c.fill_side-sold.ensures.written;
       fair = fills_fair ranks c.args.price c.args.trading lines (book_stands book.next lines book.sound);
     }

@@ -6,12 +6,12 @@ use Rattle.ladder.proofs.either.EitherLadder.at_or_above.Goals as goal
 
 pub returns-in-Left : goal.returns-in-Left
 returns-in-Left g c =
-    subst⁻¹ (λ (rungs : Rungs). Lowest rungs c.args.p c.at-or-above.result)
+    subst⁻¹ (λ (rungs : Rungs). Lowest rungs c.args.p c.at_or_above.result)
     (ap (either g.A.Ladder.rungs g.B.Ladder.rungs) c.in-Left.is)
-    c.at-or-above.ensures
+    c.at_or_above.ensures
 
 pub returns-in-Right : goal.returns-in-Right
 returns-in-Right g c =
-    subst⁻¹ (λ (rungs : Rungs). Lowest rungs c.args.p c.at-or-above-in-Right.result)
+    subst⁻¹ (λ (rungs : Rungs). Lowest rungs c.args.p c.at_or_above-in-Right.result)
     (ap (either g.A.Ladder.rungs g.B.Ladder.rungs) c.in-Right.is)
-    c.at-or-above-in-Right.ensures
+    c.at_or_above-in-Right.ensures

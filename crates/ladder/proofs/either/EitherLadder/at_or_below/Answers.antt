@@ -6,12 +6,12 @@ use Rattle.ladder.proofs.either.EitherLadder.at_or_below.Goals as goal
 
 pub returns-in-Left : goal.returns-in-Left
 returns-in-Left g c =
-    subst⁻¹ (λ (rungs : Rungs). Highest rungs c.args.p c.at-or-below.result)
+    subst⁻¹ (λ (rungs : Rungs). Highest rungs c.args.p c.at_or_below.result)
     (ap (either g.A.Ladder.rungs g.B.Ladder.rungs) c.in-Left.is)
-    c.at-or-below.ensures
+    c.at_or_below.ensures
 
 pub returns-in-Right : goal.returns-in-Right
 returns-in-Right g c =
-    subst⁻¹ (λ (rungs : Rungs). Highest rungs c.args.p c.at-or-below-in-Right.result)
+    subst⁻¹ (λ (rungs : Rungs). Highest rungs c.args.p c.at_or_below-in-Right.result)
     (ap (either g.A.Ladder.rungs g.B.Ladder.rungs) c.in-Right.is)
-    c.at-or-below-in-Right.ensures
+    c.at_or_below-in-Right.ensures

@@ -1,8 +1,8 @@
 use Rattle.std.proofs.Common.{◌≡◌, ◌*◌, ◌≤◌, mul-le-mul_right, arith}
 use Rattle.ladder.proofs.limit.Limit.reach.Goals as goal
 
-pub overflow-cast-result : goal.overflow-cast-result
-overflow-cast-result g c =
+pub overflow_cast-result : goal.overflow_cast-result
+overflow_cast-result g c =
     let l = c.args.self.now in
     let part : c.from.result ≤ 100 = omega arith in
     omega (arith, mul-le-mul_right c.from-2.result part)

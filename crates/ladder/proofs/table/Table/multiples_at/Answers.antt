@@ -3,10 +3,10 @@ use Rattle.ladder.specs.Bands.{row_of}
 use Rattle.ladder.proofs.Starts.{fits_at, row_in}
 use Rattle.ladder.proofs.table.Table.multiples_at.Goals as goal
 
-pub invariant-of-result : goal.invariant-of-result
-invariant-of-result c =
+pub invariant_of-result : goal.invariant_of-result
+invariant_of-result c =
     let t = c.args.self.now in
     let p = c.args.p in
     let f = fits_at (row_of p) t.band (row_in p).row t.low t.high in
-    let is = c.row-at.ensures.step in
+    let is = c.row_at.ensures.step in
     (omega (arith, f.some), (omega (arith, f.small), tt))

@@ -7,5 +7,5 @@ use Rattle.ladder.proofs.table.TableLadder.at_or_above.Goals as goal
 pub returns : goal.returns
 returns c =
     let t = c.args.self.now in
-    lowest_moves t.band t.low t.high c.args.p c.at-or-above.result
-    (subst (λ (step : ℕ). Lowest (multiples step) c.args.p c.at-or-above.result) c.multiples-at.ensures c.at-or-above.ensures)
+    lowest_moves t.band t.low t.high c.args.p c.at_or_above.result
+    (subst (λ (step : ℕ). Lowest (multiples step) c.args.p c.at_or_above.result) c.multiples_at.ensures c.at_or_above.ensures)

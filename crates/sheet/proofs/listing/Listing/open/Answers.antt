@@ -4,8 +4,8 @@ use Rattle.sheet.specs.Sounds.{is_current, is_later}
 use Rattle.sheet.proofs.Dating.{opened_current}
 use Rattle.sheet.proofs.listing.Listing.open.Goals as goal
 
-pub invariant-of-self : goal.invariant-of-self
-invariant-of-self c =
+pub invariant_of-self : goal.invariant_of-self
+invariant_of-self c =
     let at = c.args.self.now in
     let later : is_later at.last c.args.date ≡ true = search rules in
     let e = c.opened-self.ensures.opened in

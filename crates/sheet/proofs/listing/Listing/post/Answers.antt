@@ -4,8 +4,8 @@ use Rattle.sheet.specs.Sounds.{is_current}
 use Rattle.sheet.proofs.Dating.{posted_current}
 use Rattle.sheet.proofs.listing.Listing.post.Goals as goal
 
-pub invariant-of-self : goal.invariant-of-self
-invariant-of-self c =
+pub invariant_of-self : goal.invariant_of-self
+invariant_of-self c =
     let at = c.args.self.now in
     let e = c.posted-self.ensures.posted in
     (c.posted-self.ensures.sound, (ap (λ (s : Sheet). is_current s at.last) e ∙ posted_current at.terms at.sheet c.args.trade at.last at.current, tt))

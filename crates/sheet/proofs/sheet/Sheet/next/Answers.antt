@@ -17,13 +17,13 @@ pub added-requires : goal.added-requires
 added-requires c = let b = bounds c.args.terms c.args.self c.requires.sound in (b.volume, (b.recent, b.turnover))
 
 -- in every arm the result is the next sheet, and so is sound
-pub returns-in-default-Opening : goal.returns-in-default-Opening
-returns-in-default-Opening c =
-    let e : started c.args.self c.in-default-Opening.date ≡ next c.args.terms c.args.self c.args.event = search rules in
+pub returns-in_default-Opening : goal.returns-in_default-Opening
+returns-in_default-Opening c =
+    let e : started c.args.self c.in_default-Opening.date ≡ next c.args.terms c.args.self c.args.event = search rules in
     record { next = e; sound = ap (is_sound c.args.terms) e ∙ next_sound c.args.terms c.args.self c.args.event c.requires.sound c.requires.due }
 
-pub returns-in-default-TimeEnd : goal.returns-in-default-TimeEnd
-returns-in-default-TimeEnd c =
+pub returns-in_default-TimeEnd : goal.returns-in_default-TimeEnd
+returns-in_default-TimeEnd c =
     let e : c.ended.result ≡ next c.args.terms c.args.self c.args.event = search rules in
     record { next = e; sound = ap (is_sound c.args.terms) e ∙ next_sound c.args.terms c.args.self c.args.event c.requires.sound c.requires.due }
 
@@ -32,7 +32,7 @@ returns-in-One-IntermediateClose c =
     let e : c.closed.result ≡ next c.args.terms c.args.self c.args.event = search rules in
     record { next = e; sound = ap (is_sound c.args.terms) e ∙ next_sound c.args.terms c.args.self c.args.event c.requires.sound c.requires.due }
 
-pub returns-in-default-Posting : goal.returns-in-default-Posting
-returns-in-default-Posting c =
+pub returns-in_default-Posting : goal.returns-in_default-Posting
+returns-in_default-Posting c =
     let e : c.settled.result ≡ next c.args.terms c.args.self c.args.event = search rules in
     record { next = e; sound = ap (is_sound c.args.terms) e ∙ next_sound c.args.terms c.args.self c.args.event c.requires.sound c.requires.due }
