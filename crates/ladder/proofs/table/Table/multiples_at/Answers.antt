@@ -9,4 +9,4 @@ invariant_of-result c =
     let p = c.args.p in
     let f = fits_at (row_of p) t.band (row_in p).row t.low t.high in
     let is = c.row_at.ensures.step in
-    (omega (arith, f.some), (omega (arith, f.small), tt))
+    record { low = omega (arith, f.some); high = omega (arith, f.small) }
