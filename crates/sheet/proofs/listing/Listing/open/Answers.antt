@@ -9,4 +9,7 @@ invariant_of-self c =
     let at = c.args.self.now in
     let later : is_later at.last c.args.date ≡ true = search rules in
     let e = c.opened-self.ensures.opened in
-    (c.opened-self.ensures.sound, (ap (λ (s : Sheet). is_current s (Some c.args.date)) e ∙ opened_current at.terms at.sheet at.last c.args.date at.current later, tt))
+    record {
+      sound = c.opened-self.ensures.sound;
+      current = ap (λ (s : Sheet). is_current s (Some c.args.date)) e ∙ opened_current at.terms at.sheet at.last c.args.date at.current later;
+    }

@@ -8,4 +8,7 @@ pub invariant_of-self : goal.invariant_of-self
 invariant_of-self c =
     let at = c.args.self.now in
     let e = c.posted-self.ensures.posted in
-    (c.posted-self.ensures.sound, (ap (λ (s : Sheet). is_current s at.last) e ∙ posted_current at.terms at.sheet c.args.trade at.last at.current, tt))
+    record {
+      sound = c.posted-self.ensures.sound;
+      current = ap (λ (s : Sheet). is_current s at.last) e ∙ posted_current at.terms at.sheet c.args.trade at.last at.current;
+    }
