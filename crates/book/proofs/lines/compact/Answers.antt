@@ -7,8 +7,8 @@ use Rattle.book.proofs.lines.compact.Goals.{then-passes, else-passes}
 pub loop-i-preserved : goal.loop-i-preserved
 loop-i-preserved g c =
     elim c.if-passes.branch [
-      | then-passes w ↦ rw (w.items-is, w.count_is, w.keep-count.ensures.kept, w.keep-count.ensures.next) (FiltersInPlace-more_set {x = c.index-items-i.result} c.loop-i.invariant (omega arith) (sym w.if-passes.ensures) c.index-items-i.is)
-      | else-passes w ↦ rw (w.items-is, w.count_is) (FiltersInPlace-more_no {x = c.index-items-i.result} c.loop-i.invariant (omega arith) (sym w.if-passes.ensures) c.index-items-i.is)
+      | then-passes w ↦ rw (w.items-is, w.count-is, w.keep-count.ensures.kept, w.keep-count.ensures.next) (FiltersInPlace-more_set {x = c.index-items-i.result} c.loop-i.invariant (omega arith) (sym w.if-passes.ensures) c.index-items-i.is)
+      | else-passes w ↦ rw (w.items-is, w.count-is) (FiltersInPlace-more_no {x = c.index-items-i.result} c.loop-i.invariant (omega arith) (sym w.if-passes.ensures) c.index-items-i.is)
     ]
 
 pub returns : goal.returns

@@ -12,6 +12,6 @@ loop-i-preserved c =
     let t = c.args.self.now in
     let more = equal_more c.loop-i.i t.given.steps t.held.steps in
     elim c.if-self-i.branch [
-      | then-self-i w ↦ let is = w.count_is in let same = w.if-self-i.true in (grind (arith, nat_tests), omega arith)
-      | else-self-i w ↦ let is = w.count_is in let other = w.if-self-i.false in (grind (arith, nat_tests), omega arith)
+      | then-self-i w ↦ let is = w.count-is in let same = w.if-self-i.true in (grind (arith, nat_tests), omega arith)
+      | else-self-i w ↦ let is = w.count-is in let other = w.if-self-i.false in (grind (arith, nat_tests), omega arith)
     ]
