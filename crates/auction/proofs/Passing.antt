@@ -7,7 +7,7 @@ use Rattle.std.proofs.lemmas.List.Sums.{sum_by-cons, sum_by_more}
 use Rattle.std.proofs.lemmas.Bool.{cases_eq, cases_lt, cond_both, both_ways, eq-eqb, ne_eqb}
 use Rattle.std.proofs.lemmas.Bool.Decides.{nat_tests}
 use Rattle.ladder.specs.Rungs.{Rungs, In}
-use Rattle.book.specs.Depths.{trading, surplus}
+use Rattle.book.specs.Depths.{trading}
 use Rattle.book.specs.Orders.{shares_at, accepts, free}
 use Rattle.book.specs.declared.order.Order.{Order}
 use Rattle.book.specs.declared.order.Side.{Side}

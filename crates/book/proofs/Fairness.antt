@@ -1,9 +1,9 @@
 -- What is true of the fills of a book. Assumes nothing.
-use Rattle.std.proofs.Common.{◌≡◌, ℕ, ◌+◌, ◌-◌, ◌<◌, ◌≤◌, min, Bool, true, false, cond, not, ◌&&◌, eqb, ◌⊎◌, List, [], ◌∷◌, ◌++◌, sum_by, filter, sym, refl, ap, ◌∙◌, subst, inl, inr, ⊎_elim, arith}
+use Rattle.std.proofs.Common.{◌≡◌, ℕ, ◌+◌, ◌-◌, ◌<◌, ◌≤◌, min, Bool, true, false, cond, not, eqb, List, [], ◌∷◌, sum_by, sym, refl, ap, ◌∙◌, subst, inl, inr, ⊎_elim, arith}
 use Rattle.std.specs.List.{AllByRecursion as All}
 use Rattle.std.proofs.ByRecursion.{All-append, all_kept_by, All-weaker}
 use Rattle.std.proofs.lemmas.List.Sums.{sum_by-append, sum_by-cons}
-use Rattle.std.proofs.lemmas.Bool.{and_parts, both_ways, cases_eq, cond_both, eq-eqb, ne_eqb, not-true}
+use Rattle.std.proofs.lemmas.Bool.{and_parts, both_ways, cases_eq, eq-eqb, ne_eqb, not-true}
 use Rattle.std.proofs.lemmas.Bool.Decides.{nat_tests}
 use Rattle.book.specs.Depths.{depth_on, trading as trading_at}
 use Rattle.book.specs.Fills.{accepting, all_fills, dealt, Fair, fills_of, gained, other_number, shares_in}
@@ -16,7 +16,7 @@ use Rattle.book.specs.declared.order.Side.TheVariants.{Buy, Sell}
 use Rattle.book.proofs.Filling.{kept_told}
 use Rattle.book.proofs.Orderings.{Ordering}
 use Rattle.book.proofs.Rankings.{ByMerit, ranked_by_merit, ranked_apart, one_ranked, one_kept_of, all_one, all_ranked, apart_kept, sum_by-ranked, sum_by_kept}
-use Rattle.book.proofs.Sides.{held, held_own, held_both, fills_held}
+use Rattle.book.proofs.Sides.{held_own, held_both, fills_held}
 use Rattle.book.proofs.Standing.{Line, Standing}
 
 abbrev fill_of : ℕ → Order → Fill

@@ -1,10 +1,10 @@
 -- Edits keep lines sound. Assumes nothing.
-use Rattle.std.proofs.Common.{◌≡◌, ℕ, ◌+◌, ◌-◌, ◌<◌, ◌≤◌, Bool, true, false, cond, ◌&&◌, ltb, leb, List, [], ◌∷◌, ◌++◌, map, length, take, drop, replicate, Ok, filter, sym, refl, ap, ◌∙◌, subst, ⊎_elim, arith}
+use Rattle.std.proofs.Common.{◌≡◌, ℕ, ◌+◌, ◌-◌, ◌<◌, ◌≤◌, Bool, true, false, ◌&&◌, ltb, leb, List, [], ◌∷◌, ◌++◌, map, length, take, drop, replicate, filter, sym, refl, ap, ◌∙◌, ⊎_elim, arith}
 use Rattle.std.proofs.lemmas.List.{length-append, length-drop, length-replicate, length-take, map-id, take-append-drop}
 use Rattle.std.proofs.lemmas.Bool.{and_from, and_parts, cases_Bool, le-leb, leb-true, lt-ltb, ltb-true}
 use Rattle.terms.specs.Dates.{is_date}
 use Rattle.terms.specs.Prices.{within, within_ends, is_price}
-use Rattle.book.specs.Edits.{Entered, is_unfilled, Leaves, less_fills, posted}
+use Rattle.book.specs.Edits.{is_unfilled, Leaves, less_fills, posted}
 use Rattle.book.specs.Fills.{gained}
 use Rattle.book.specs.Laws.{EntrySound, PostingSound, RemovalSound}
 use Rattle.book.specs.Orders.{free}

@@ -1,5 +1,5 @@
 -- Priority by price and time is kept among all orders of a side. Assumes nothing.
-use Rattle.std.proofs.Common.{◌≡◌, ℕ, ◌<◌, Bool, true, false, List, ⊎_elim, arith, rules}
+use Rattle.std.proofs.Common.{◌≡◌, ℕ, ◌<◌, true, false, List, ⊎_elim, arith, rules}
 use Rattle.std.proofs.lemmas.Bool.{cases_Bool}
 use Rattle.book.specs.Fills.{all_fills, gained}
 use Rattle.book.specs.Laws.{PriorityKept}

@@ -1,7 +1,7 @@
 -- Records written behind others. Assumes nothing.
 use Rattle.std.proofs.Common.{◌≡◌, ℕ, ◌+◌, ◌-◌, List, [], ◌++◌, length, take, drop, sym, ap, ◌∙◌, arith}
 use borrow.Rule.Slice.PartMut.{put_mid}
-use Rattle.std.proofs.lemmas.List.{append_assoc, append-nil, drop_all, drop_at, drop-drop, length-append, length-drop, take_at, take_rest}
+use Rattle.std.proofs.lemmas.List.{append_assoc, append-nil, drop_all, drop_at, drop-drop, length-drop, take_at, take_rest}
 
 -- first a is written over e, then b behind it
 pub both_written : {X : Type 0} (e first second a b : List X) (m n : ℕ) → m ≡ length a → n ≡ length b → first ≡ a ++ drop m e → second ≡ b ++ drop n (take (length first - m) (drop m first)) → put_mid m (length first - m) first second ≡ (a ++ b) ++ drop (m + n) e

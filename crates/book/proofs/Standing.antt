@@ -1,15 +1,15 @@
 -- What is known of lines that stand in a book. Assumes nothing.
-use Rattle.std.proofs.Common.{◌≡◌, ℕ, ◌+◌, ◌-◌, ◌<◌, ◌≤◌, Bool, true, false, not, ◌&&◌, eqb, ltb, leb, List, [], ◌∷◌, length, get_or, take, drop, sym, refl, ap, ◌∙◌, arith}
+use Rattle.std.proofs.Common.{◌≡◌, ℕ, ◌+◌, ◌<◌, ◌≤◌, true, false, not, ◌&&◌, ltb, leb, List, [], ◌∷◌, length, get_or, drop, ap, ◌∙◌, arith}
 use Rattle.std.specs.List.{AllByRecursion as All}
 use Rattle.std.proofs.ByRecursion.{All-weaker}
-use Rattle.std.proofs.lemmas.List.{at_drop_more, at_drop_all, length-take}
-use Rattle.std.proofs.lemmas.Bool.{and_from, and_left, and_parts, and_right, le-leb, leb-true, lt-leb, ltb-true, ne_eqb}
+use Rattle.std.proofs.lemmas.List.{at_drop_more, at_drop_all}
+use Rattle.std.proofs.lemmas.Bool.{and_parts, le-leb, leb-true, ltb-true, ne_eqb}
 use Rattle.terms.specs.Prices.{within, within_ends, is_price}
 use Rattle.terms.specs.Dates.{is_date}
 use Rattle.book.specs.Orders.{free}
 use Rattle.book.specs.Fills.{other_number}
 use Rattle.book.specs.Ranked.{Apart}
-use Rattle.book.specs.Sounds.{in_range, may_follow, standing, is_book, is_sound}
+use Rattle.book.specs.Sounds.{in_range, may_follow, standing, is_book}
 use Rattle.book.specs.declared.order.Order.{Order}
 
 -- ---- the loop over the lines

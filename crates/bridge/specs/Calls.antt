@@ -7,7 +7,7 @@ use Rattle.terms.specs.declared.refusal.Refusal.TheVariants.{Parameter, UnsoundL
 use Rattle.ladder.specs.Bands.{banded}
 use Rattle.ladder.specs.Multiples.{multiples}
 use Rattle.ladder.specs.Rungs.{Rungs}
-use Rattle.book.specs.Fills.{all_fills, recorded}
+use Rattle.book.specs.Fills.{all_fills}
 use Rattle.book.specs.PriceTimes.{ahead}
 use Rattle.book.specs.Sounds.{is_sound}
 use Rattle.book.specs.declared.fill.Fill.{Fill}

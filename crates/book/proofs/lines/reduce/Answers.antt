@@ -1,4 +1,4 @@
-use Rattle.std.proofs.Common.{◌≡◌, ◌++◌, map, get_or, drop, ap, ◌∙◌, arith}
+use Rattle.std.proofs.Common.{◌++◌, map, get_or, drop, ap, ◌∙◌, arith}
 use Rattle.std.proofs.lemmas.List.Edits.{map_over_more}
 use Rattle.std.proofs.lemmas.List.{append-nil, get_or_default, drop_all, take_all}
 use Rattle.book.specs.Edits.{less_fills}
