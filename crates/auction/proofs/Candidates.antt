@@ -1,6 +1,6 @@
 -- Each rung is behind one of the candidates. Assumes nothing.
 use Rattle.std.proofs.Common.{◌≡◌, ℕ, ◌+◌, ◌-◌, ◌<◌, ◌≤◌, Bool, true, false, cond, ◌&&◌, eqb, leb, ◌⊎◌, List, [], ◌∷◌, Some, None, sum_by, Option, refl, subst, inl, inr, ⊎_elim, arith}
-use Rattle.std.specs.List.{AllByRecursion as All}
+use Rattle.std.specs.List.{AllByRecursion}
 use Rattle.std.proofs.ByRecursion.{All-weaker}
 use Rattle.std.proofs.lemmas.List.Sums.{sum_by-cons}
 use Rattle.std.proofs.lemmas.Bool.{cases_eq, cases_lt, ne_eqb}
@@ -20,7 +20,7 @@ use Rattle.auction.specs.Ranks.{ahead_carries}
 
 -- ---- numbers c with P c: the walk over the turns keeps one that no turn parts from q
 module _ {X : Type 0} (P : ℕ → Type 0) (t : X → ℕ) (q : ℕ) where
-  pub up : (top : ℕ) (xs : List X) → ((c : ℕ) × P c × (q ≤ c) × (c ≤ top)) → All (λ x. q < t x → (c : ℕ) × P c × (q ≤ c) × (c < t x)) xs → (c : ℕ) × P c × (q ≤ c) × (c ≤ top) × All (λ x. q < t x → c < t x) xs
+  pub up : (top : ℕ) (xs : List X) → ((c : ℕ) × P c × (q ≤ c) × (c ≤ top)) → AllByRecursion (λ x. q < t x → (c : ℕ) × P c × (q ≤ c) × (c < t x)) xs → (c : ℕ) × P c × (q ≤ c) × (c ≤ top) × AllByRecursion (λ x. q < t x → c < t x) xs
   up top [] h each = (h.0, h.1, h.2, h.3, tt)
   up top (x ∷ xs) h each =
       let rest = up top xs h each.1 in
@@ -35,7 +35,7 @@ module _ {X : Type 0} (P : ℕ → Type 0) (t : X → ℕ) (q : ℕ) where
       (cases_lt q (t x)))
       (cases_lt c (t x))
 
-  pub down : (bottom : ℕ) (xs : List X) → ((c : ℕ) × P c × (bottom ≤ c) × (c ≤ q)) → All (λ x. t x ≤ q → (c : ℕ) × P c × (t x ≤ c) × (c ≤ q)) xs → (c : ℕ) × P c × (bottom ≤ c) × (c ≤ q) × All (λ x. t x ≤ q → t x ≤ c) xs
+  pub down : (bottom : ℕ) (xs : List X) → ((c : ℕ) × P c × (bottom ≤ c) × (c ≤ q)) → AllByRecursion (λ x. t x ≤ q → (c : ℕ) × P c × (t x ≤ c) × (c ≤ q)) xs → (c : ℕ) × P c × (bottom ≤ c) × (c ≤ q) × AllByRecursion (λ x. t x ≤ q → t x ≤ c) xs
   down bottom [] h each = (h.0, h.1, h.2, h.3, tt)
   down bottom (x ∷ xs) h each =
       let rest = down bottom xs h each.1 in
@@ -69,13 +69,13 @@ same_shares Sell x p q f g =
     sell_same (on_side Sell x) x.limit x.left p q (subst (λ n. p < n → q < n) at f) (subst (λ n. q < n → p < n) at g))
     (cases_eq x.side 1)
 
-pub sum_same : {X : Type 0} (f g : X → ℕ) (xs : List X) → All (λ x. f x ≡ g x) xs → sum_by f xs ≡ sum_by g xs
+pub sum_same : {X : Type 0} (f g : X → ℕ) (xs : List X) → AllByRecursion (λ x. f x ≡ g x) xs → sum_by f xs ≡ sum_by g xs
 sum_same f g [] h = refl
 sum_same f g (x ∷ xs) h = omega (arith, sum_by-cons f x xs, sum_by-cons g x xs, h.0, sum_same f g xs h.1)
 
 -- no turn parts p from q
 abbrev Alike : List Order → ℕ → ℕ → Type 0
-Alike lines p q = All (λ x. (p < turn x → q < turn x) × (q < turn x → p < turn x)) lines
+Alike lines p q = AllByRecursion (λ x. (p < turn x → q < turn x) × (q < turn x → p < turn x)) lines
 
 same_depth : (side : Side) (lines : List Order) (p q : ℕ) → Alike lines p q → sum_by (shares_at side p) lines ≡ sum_by (shares_at side q) lines
 same_depth side lines p q alike =
@@ -116,7 +116,7 @@ module _ (rungs : Rungs) (lines : List Order) (r : ℕ) (best : Option RungMark)
   abbrev Turned : Order → Type 0
   Turned x = Tried rungs lines r (turn x - 1) (turn x) best
 
-  pub covers : Tried rungs lines r r r best → All Turned lines → (q : ℕ) → In rungs q → Behind best (Some (mark lines r q))
+  pub covers : Tried rungs lines r r r best → AllByRecursion Turned lines → (q : ℕ) → In rungs q → Behind best (Some (mark lines r q))
   covers here each q on =
       ⊎_elim
       (λ (lt : q < r).

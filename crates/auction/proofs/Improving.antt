@@ -1,6 +1,6 @@
 -- One step of the search by candidates. Assumes nothing.
 use Rattle.std.proofs.Common.{◌≡◌, ℕ, zero, suc, ◌+◌, ◌-◌, ◌<◌, ◌≤◌, Bool, true, false, List, [], ◌∷◌, length, get_or, take, Some, None, Option, sym, refl, ap, ◌∙◌, subst, inl, inr, ⊎_elim, arith}
-use Rattle.std.specs.List.{AllByRecursion as All}
+use Rattle.std.specs.List.{AllByRecursion}
 use Rattle.std.proofs.ByRecursion.{All-from_get_or, All-more, All-weaker}
 use Rattle.std.proofs.lemmas.List.{take_all}
 use Rattle.std.proofs.lemmas.Bool.{cases_Bool, false≢true}
@@ -136,4 +136,4 @@ module _ (rungs : Rungs) (lines : List Order) (r : ℕ) where
 
   pub all_searched : (n : ℕ) (best : Option RungMark) → length lines ≤ n → Searched rungs lines r n best → (q : ℕ) → In rungs q → Behind best (Some (mark lines r q))
   all_searched n best past s =
-      covers rungs lines r best s.here (subst (All (λ (x : Order). Tried rungs lines r (turn x - 1) (turn x) best)) (take_all n lines past) s.each)
+      covers rungs lines r best s.here (subst (AllByRecursion (λ (x : Order). Tried rungs lines r (turn x - 1) (turn x) best)) (take_all n lines past) s.each)

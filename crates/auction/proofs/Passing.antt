@@ -1,6 +1,6 @@
 -- Trades at a price move up to the smaller depth, and no more. Assumes nothing.
 use Rattle.std.proofs.Common.{◌≡◌, ℕ, zero, suc, ◌+◌, ◌<◌, ◌≤◌, Bool, true, false, cond, eqb, List, [], ◌∷◌, length, get_or, take, Some, None, sum_by, Option, sym, refl, ap, ◌∙◌, subst, ⊎_elim, arith}
-use Rattle.std.specs.List.{AllByRecursion as All}
+use Rattle.std.specs.List.{AllByRecursion}
 use Rattle.std.proofs.ByRecursion.{All-weaker}
 use Rattle.std.proofs.lemmas.List.{take_all}
 use Rattle.std.proofs.lemmas.List.Sums.{sum_by-cons, sum_by_more}
@@ -73,7 +73,7 @@ module _ (at : Passage → ℕ) where
   by_cons i p ps = sum_by-cons (λ (x : Passage). cond (eqb (at x) i) x.shares 0) p ps
 
   -- what passes is the sum of what passes at each line
-  all_by_line : (n : ℕ) (ps : List Passage) → All (λ p. at p < n) ps → passed ps ≡ sum_to (λ i. by_line i ps) n
+  all_by_line : (n : ℕ) (ps : List Passage) → AllByRecursion (λ p. at p < n) ps → passed ps ≡ sum_to (λ i. by_line i ps) n
   all_by_line n [] h = sym (sum_none (λ i. by_line i []) n (λ i. refl))
   all_by_line n (p ∷ ps) h =
       omega (
@@ -86,7 +86,7 @@ module _ (at : Passage → ℕ) where
 
   module _ (side : Side) (lines : List Order) (q : ℕ) where
     -- none passes at a line that does not accept the price
-    none_by_line : (i : ℕ) (ps : List Passage) → accepts side q (get_or lines i free) ≡ false → All (λ p. (at p < length lines) × (accepts side q (get_or lines (at p) free) ≡ true)) ps → by_line i ps ≡ 0
+    none_by_line : (i : ℕ) (ps : List Passage) → accepts side q (get_or lines i free) ≡ false → AllByRecursion (λ p. (at p < length lines) × (accepts side q (get_or lines (at p) free) ≡ true)) ps → by_line i ps ≡ 0
     none_by_line i [] off h = refl
     none_by_line i (p ∷ ps) off h =
         ⊎_elim
@@ -94,7 +94,7 @@ module _ (at : Passage → ℕ) where
         (λ (ne : at p ≡ i → ⊥). omega (arith, by_cons i p ps, only (at p) p.shares i ne, none_by_line i ps off h.1))
         (cases_eq (at p) i)
 
-    pub side_passed : (ps : List Passage) → All (λ p. (at p < length lines) × (accepts side q (get_or lines (at p) free) ≡ true)) ps → ((i : ℕ) → by_line i ps ≤ (get_or lines i free).left) → passed ps ≤ sum_by (shares_at side q) lines
+    pub side_passed : (ps : List Passage) → AllByRecursion (λ p. (at p < length lines) × (accepts side q (get_or lines (at p) free) ≡ true)) ps → ((i : ℕ) → by_line i ps ≤ (get_or lines i free).left) → passed ps ≤ sum_by (shares_at side q) lines
     side_passed ps h cap =
         let n = length lines in
         let each : (i : ℕ) → i < n → by_line i ps ≤ shares_at side q (get_or lines i free) =
@@ -116,7 +116,7 @@ shares_taken false left k h = absurd (omega arith)
 
 module _ (at : Passage → ℕ) (side : Side) (lines : List Order) (q : ℕ) where
   abbrev Fair : List Passage → Type 0
-  Fair ps = All (λ p. (at p < length lines) × (accepts side q (get_or lines (at p) free) ≡ true)) ps × ((i : ℕ) → by_line at i ps ≤ (get_or lines i free).left)
+  Fair ps = AllByRecursion (λ p. (at p < length lines) × (accepts side q (get_or lines (at p) free) ≡ true)) ps × ((i : ℕ) → by_line at i ps ≤ (get_or lines i free).left)
 
   free_line : (ps : List Passage) → Fair ps → passed ps < sum_by (shares_at side q) lines → (i : ℕ) × (i < length lines) × (accepts side q (get_or lines i free) ≡ true) × (by_line at i ps < (get_or lines i free).left)
   free_line ps fair less =

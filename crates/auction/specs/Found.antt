@@ -1,6 +1,6 @@
 -- The steps of the search by candidates. Assumes nothing.
 use Rattle.std.specs.Prelude.{◌≡◌, ℕ, ◌-◌, ◌<◌, ◌≤◌, false, List, [], ◌∷◌, take, Some, None, Option}
-use Rattle.std.specs.List.{AllByRecursion as All}
+use Rattle.std.specs.List.{AllByRecursion}
 use Rattle.ladder.specs.Rungs.{Rungs, In}
 use Rattle.book.specs.Ranked.{OneOf}
 use Rattle.book.specs.declared.order.Order.{Order}
@@ -25,7 +25,7 @@ Taken candidates (Some m) = OneOf (record { mark = Some m }) candidates × (0 < 
 
 -- the first of the candidates at which a share trades
 abbrev pub Foremost : List Candidate → Option RungMark → Type 0
-Foremost candidates best = All (λ x. Behind best x.mark) candidates × Taken candidates best
+Foremost candidates best = AllByRecursion (λ x. Behind best x.mark) candidates × Taken candidates best
 
 -- a best is the mark of a rung at which a share trades
 abbrev pub Rightly : Rungs → List Order → ℕ → Option RungMark → Type 0
@@ -48,4 +48,4 @@ pub record Improves (rungs : Rungs) (lines : List Order) (reference low high : �
 pub record Searched (rungs : Rungs) (lines : List Order) (reference n : ℕ) (best : Option RungMark) : Type 0 where
   pub rightly : Rightly rungs lines reference best
   pub here : Tried rungs lines reference reference reference best
-  pub each : All (λ x. Tried rungs lines reference (turn x - 1) (turn x) best) (take n lines)
+  pub each : AllByRecursion (λ x. Tried rungs lines reference (turn x - 1) (turn x) best) (take n lines)

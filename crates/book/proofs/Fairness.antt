@@ -1,6 +1,6 @@
 -- What is true of the fills of a book. Assumes nothing.
 use Rattle.std.proofs.Common.{◌≡◌, ℕ, ◌+◌, ◌-◌, ◌<◌, ◌≤◌, min, Bool, true, false, cond, not, eqb, List, [], ◌∷◌, sum_by, sym, refl, ap, ◌∙◌, subst, inl, inr, ⊎_elim, arith}
-use Rattle.std.specs.List.{AllByRecursion as All}
+use Rattle.std.specs.List.{AllByRecursion}
 use Rattle.std.proofs.ByRecursion.{All-append, all_kept_by, All-weaker}
 use Rattle.std.proofs.lemmas.List.Sums.{sum_by-append, sum_by-cons}
 use Rattle.std.proofs.lemmas.Bool.{and_parts, both_ways, cases_eq, eq-eqb, ne_eqb, not-true}
@@ -42,7 +42,7 @@ exactly before price trading lines enough Buy = omega (arith, fills_spend before
 exactly before price trading lines enough Sell = omega (arith, fills_spend before Sell price trading lines)
 
 -- ---- every record has a share
-some_dealt : (n : ℕ) (xs : List Order) → All Line xs → All (λ f. 0 < f.shares) (dealt n xs)
+some_dealt : (n : ℕ) (xs : List Order) → AllByRecursion Line xs → AllByRecursion (λ f. 0 < f.shares) (dealt n xs)
 some_dealt n [] h = tt
 some_dealt n (x ∷ xs) h =
     ⊎_elim
@@ -58,7 +58,7 @@ gained_zero : (k : ℕ) (xs : List Order) → gained k (dealt 0 xs) ≡ 0
 gained_zero k [] = refl
 gained_zero k (x ∷ xs) = refl
 
-gained_none : (k n : ℕ) (xs : List Order) → All (λ x. eqb x.number k ≡ false) xs → gained k (dealt n xs) ≡ 0
+gained_none : (k n : ℕ) (xs : List Order) → AllByRecursion (λ x. eqb x.number k ≡ false) xs → gained k (dealt n xs) ≡ 0
 gained_none k n [] h = refl
 gained_none k n (x ∷ xs) h =
     ⊎_elim
@@ -84,7 +84,7 @@ module _ {before : Order → Order → Bool} (ranks : Ordering before told_apart
   Whole fills = 0 < gained b.number fills → gained a.number fills ≡ a.left
 
   -- a stands first
-  whole_here : (n : ℕ) (xs : List Order) → All (λ x. told_apart a x ≡ true) xs → OneOf b xs → Whole (fill_of n a ∷ dealt (n - a.left) xs)
+  whole_here : (n : ℕ) (xs : List Order) → AllByRecursion (λ x. told_apart a x ≡ true) xs → OneOf b xs → Whole (fill_of n a ∷ dealt (n - a.left) xs)
   whole_here n xs told ib h =
       let other : eqb a.number b.number ≡ false = told_number a b (all_one (λ x. told_apart a x ≡ true) b xs told ib) in
       let gb = gained_cons b.number n a xs ∙ ap (λ t. cond t (min n a.left) 0 + gained b.number (dealt (n - a.left) xs)) other in
@@ -96,7 +96,7 @@ module _ {before : Order → Order → Bool} (ranks : Ordering before told_apart
       (cases_eq (n - a.left) 0)
 
   -- x, which stands first, is another
-  passed : (n : ℕ) (x : Order) (xs : List Order) (c : Order) → All (λ y. told_apart x y ≡ true) xs → OneOf c xs → gained c.number (fill_of n x ∷ dealt (n - x.left) xs) ≡ gained c.number (dealt (n - x.left) xs)
+  passed : (n : ℕ) (x : Order) (xs : List Order) (c : Order) → AllByRecursion (λ y. told_apart x y ≡ true) xs → OneOf c xs → gained c.number (fill_of n x ∷ dealt (n - x.left) xs) ≡ gained c.number (dealt (n - x.left) xs)
   passed n x xs c told ic =
       let other : eqb x.number c.number ≡ false = told_number x c (all_one (λ y. told_apart x y ≡ true) c xs told ic) in
       omega (arith, gained_cons c.number n x xs ∙ ap (λ t. cond t (min n x.left) 0 + gained c.number (dealt (n - x.left) xs)) other)
@@ -104,7 +104,7 @@ module _ {before : Order → Order → Bool} (ranks : Ordering before told_apart
   whole_next : (n : ℕ) (x : Order) (xs : List Order) → ByMerit before (x ∷ xs) → Apart told_apart (x ∷ xs) → (OneOf a xs → OneOf b xs → Whole (dealt (n - x.left) xs)) → OneOf a (x ∷ xs) → OneOf b (x ∷ xs) → Whole (fill_of n x ∷ dealt (n - x.left) xs)
   whole_next n x xs sorted told on (inl ea) (inl eb) h = absurd (never x (ap (before x) eb ∙ ap (λ v. before v b) ea ∙ front))
   whole_next n x xs sorted told on (inl ea) (inr ib) h =
-      let P : Order → Type 0 = λ v. All (λ z. told_apart v z ≡ true) xs → Whole (fill_of n v ∷ dealt (n - v.left) xs) in
+      let P : Order → Type 0 = λ v. AllByRecursion (λ z. told_apart v z ≡ true) xs → Whole (fill_of n v ∷ dealt (n - v.left) xs) in
       subst P (sym ea) (λ away. whole_here n xs away ib) told.0 h
   whole_next n x xs sorted told on (inr ia) (inl eb) h =
       absurd (never x (ranks.carries x a x (all_one (λ y. before x y ≡ true) a xs sorted.0 ia) (ap (before a) eb ∙ front)))
@@ -148,7 +148,7 @@ module _ {before : Order → Order → Bool} (ranks : Ordering before told_apart
   gained_own Buy x i = omega (arith, gained_all x.number, only_own Buy x i)
   gained_own Sell x i = omega (arith, gained_all x.number, only_own Sell x i)
 
-  some_fills : (side : Side) → All (λ f. 0 < f.shares) (fills_of before side price trading lines)
+  some_fills : (side : Side) → AllByRecursion (λ f. 0 < f.shares) (fills_of before side price trading lines)
   some_fills side = some_dealt trading (ranked before (accepting side price lines)) (all_ranked before Line (accepting side price lines) (all_kept_by (accepts side price) Line lines stand.each))
 
   pub fills_fair : Fair before price trading lines

@@ -1,6 +1,6 @@
 -- One turn of the walk through a side, and its end. Assumes nothing.
 use Rattle.std.proofs.Common.{◌≡◌, ℕ, suc, ◌+◌, ◌-◌, ◌<◌, ◌≤◌, min, Bool, true, false, ◌&&◌, eqb, List, [], ◌∷◌, ◌++◌, length, get_or, take, drop, set, Some, None, filter, Option, sym, refl, ap, ◌∙◌, arith}
-use Rattle.std.specs.List.{AllByRecursion as All}
+use Rattle.std.specs.List.{AllByRecursion}
 use Rattle.std.proofs.ByRecursion.{All-from_get_or, All-weaker}
 use Rattle.std.proofs.lemmas.List.{append_assoc, append-nil, drop-set-lt, length-set, length-take-le, take-append-drop, take_more_set, drop-drop}
 use Rattle.std.proofs.lemmas.Bool.{and_from, and_parts, both_ways, cond_both, eq-eqb, eqb-true, ne_eqb}
@@ -79,7 +79,7 @@ module _ {before : Order → Order → Bool} (ranks : Ordering before told_apart
     queue_next =
         let p : Order → Bool = waits before side price last in
         let among : OneOf x (filter p lines) = one_kept p x lines (first.1 free) (one_get_or lines next free first.0) in
-        let none : All (λ y. before y x ≡ false) (filter p lines) = all_kept p (λ y. before y x ≡ false) lines (All-from_get_or (λ y. p y ≡ true → before y x ≡ false) lines free (λ k lt. first.2 k lt free)) in
+        let none : AllByRecursion (λ y. before y x ≡ false) (filter p lines) = all_kept p (λ y. before y x ≡ false) lines (All-from_get_or (λ y. p y ≡ true → before y x ≡ false) lines free (λ k lt. first.2 k lt free)) in
         ranked_first ranks x (filter p lines) (kept_told side price p (λ y h. (and_parts (after before last y) (accepts side price y) h).1) lines told) among none
         ∙ ap (λ zs. x ∷ ranked before zs) (kept_twice (before x) p (waits before side price (Some x)) (waits_on last x (first.1 free)) lines)
 

@@ -1,6 +1,6 @@
 -- The first by merit stands first in the ranked list, and the rest behind it. Assumes nothing.
 use Rattle.std.proofs.Common.{◌≡◌, ℕ, zero, suc, ◌+◌, ◌<◌, Bool, true, false, cond, not, ◌&&◌, List, [], ◌∷◌, length, get_or, sum_by, filter, sym, refl, ap, ◌∙◌, subst, inl, inr, ⊎_elim, arith}
-use Rattle.std.specs.List.{AllByRecursion as All}
+use Rattle.std.specs.List.{AllByRecursion}
 use Rattle.std.proofs.ByRecursion.{all_kept_by}
 use Rattle.std.proofs.lemmas.List.Sums.{sum_by-cons}
 use Rattle.std.proofs.lemmas.Bool.{cases_Bool, cond_both, cond-true, cond-false, not-false}
@@ -12,7 +12,7 @@ one_get_or [] i d lt = absurd (omega arith)
 one_get_or (x ∷ xs) zero d lt = inl refl
 one_get_or (x ∷ xs) (suc i) d lt = inr (one_get_or xs i d (omega arith))
 
-pub all_one : {X : Type 0} (P : X → Type 0) (x : X) (xs : List X) → All P xs → OneOf x xs → P x
+pub all_one : {X : Type 0} (P : X → Type 0) (x : X) (xs : List X) → AllByRecursion P xs → OneOf x xs → P x
 all_one P x [] h i = absurd i
 all_one P x (y ∷ ys) h (inl e) = subst P e h.0
 all_one P x (y ∷ ys) h (inr i) = all_one P x ys h.1 i
@@ -33,16 +33,16 @@ one_kept_of p x (y ∷ ys) i =
     (λ (f : p y ≡ false). inr (one_kept_of p x ys (rw f at i)))
     (cases_Bool (p y))
 
-pub all_kept : {X : Type 0} (p : X → Bool) (P : X → Type 0) (xs : List X) → All (λ x. p x ≡ true → P x) xs → All P (filter p xs)
+pub all_kept : {X : Type 0} (p : X → Bool) (P : X → Type 0) (xs : List X) → AllByRecursion (λ x. p x ≡ true → P x) xs → AllByRecursion P (filter p xs)
 all_kept p P [] h = tt
 all_kept p P (y ∷ ys) h =
-    cond_both (p y) (y ∷ filter p ys) (filter p ys) (All P) (λ t. (h.0 t, all_kept p P ys h.1)) (λ _. all_kept p P ys h.1)
+    cond_both (p y) (y ∷ filter p ys) (filter p ys) (AllByRecursion P) (λ t. (h.0 t, all_kept p P ys h.1)) (λ _. all_kept p P ys h.1)
 
-pub kept_whole : {X : Type 0} (p : X → Bool) (xs : List X) → All (λ x. p x ≡ true) xs → filter p xs ≡ xs
+pub kept_whole : {X : Type 0} (p : X → Bool) (xs : List X) → AllByRecursion (λ x. p x ≡ true) xs → filter p xs ≡ xs
 kept_whole p [] h = refl
 kept_whole p (y ∷ ys) h = rw h.0 (ap (λ zs. y ∷ zs) (kept_whole p ys h.1))
 
-pub kept_none : {X : Type 0} (p : X → Bool) (xs : List X) → All (λ x. p x ≡ false) xs → filter p xs ≡ []
+pub kept_none : {X : Type 0} (p : X → Bool) (xs : List X) → AllByRecursion (λ x. p x ≡ false) xs → filter p xs ≡ []
 kept_none p [] h = refl
 kept_none p (y ∷ ys) h = rw h.0 (kept_none p ys h.1)
 
@@ -72,16 +72,16 @@ pub length-ranked : {X : Type 0} (before : X → X → Bool) (xs : List X) → l
 length-ranked before [] = refl
 length-ranked before (x ∷ xs) = length-placed before x (ranked before xs) ∙ ap suc (length-ranked before xs)
 
-pub all_placed : {X : Type 0} (before : X → X → Bool) (P : X → Type 0) (x : X) (ys : List X) → P x → All P ys → All P (placed before x ys)
+pub all_placed : {X : Type 0} (before : X → X → Bool) (P : X → Type 0) (x : X) (ys : List X) → P x → AllByRecursion P ys → AllByRecursion P (placed before x ys)
 all_placed before P x [] px h = (px, tt)
 all_placed before P x (y ∷ ys) px h =
-    cond_both (before x y) (x ∷ y ∷ ys) (y ∷ placed before x ys) (All P) (λ _. (px, h)) (λ _. (h.0, all_placed before P x ys px h.1))
+    cond_both (before x y) (x ∷ y ∷ ys) (y ∷ placed before x ys) (AllByRecursion P) (λ _. (px, h)) (λ _. (h.0, all_placed before P x ys px h.1))
 
-pub all_ranked : {X : Type 0} (before : X → X → Bool) (P : X → Type 0) (xs : List X) → All P xs → All P (ranked before xs)
+pub all_ranked : {X : Type 0} (before : X → X → Bool) (P : X → Type 0) (xs : List X) → AllByRecursion P xs → AllByRecursion P (ranked before xs)
 all_ranked before P [] h = tt
 all_ranked before P (x ∷ xs) h = all_placed before P x (ranked before xs) h.0 (all_ranked before P xs h.1)
 
-pub placed_first : {X : Type 0} (before : X → X → Bool) (x : X) (ys : List X) → All (λ y. before x y ≡ true) ys → placed before x ys ≡ x ∷ ys
+pub placed_first : {X : Type 0} (before : X → X → Bool) (x : X) (ys : List X) → AllByRecursion (λ y. before x y ≡ true) ys → placed before x ys ≡ x ∷ ys
 placed_first before x [] h = refl
 placed_first before x (y ∷ ys) h = rw h.0
 
@@ -89,19 +89,19 @@ placed_first before x (y ∷ ys) h = rw h.0
 pub comes_first : {X : Type 0} {before apart : X → X → Bool} (ranks : Ordering before apart) (x y : X) → apart y x ≡ true → before y x ≡ false → before x y ≡ true
 comes_first ranks x y apart behind = not-false _ (sym (ranks.one_first y x apart) ∙ behind)
 
-all_first : {X : Type 0} {before apart : X → X → Bool} (ranks : Ordering before apart) (y : X) (ys : List X) → All (λ z. apart y z ≡ true) ys → All (λ z. before z y ≡ false) ys → All (λ z. before y z ≡ true) ys
+all_first : {X : Type 0} {before apart : X → X → Bool} (ranks : Ordering before apart) (y : X) (ys : List X) → AllByRecursion (λ z. apart y z ≡ true) ys → AllByRecursion (λ z. before z y ≡ false) ys → AllByRecursion (λ z. before y z ≡ true) ys
 all_first ranks y [] told none = tt
 all_first ranks y (z ∷ zs) told none = (ranks.one_first y z told.0 ∙ ap not none.0, all_first ranks y zs told.1 none.1)
 
-first_here : {X : Type 0} {before apart : X → X → Bool} (ranks : Ordering before apart) (y : X) (ys : List X) → All (λ z. apart y z ≡ true) ys → All (λ z. before z y ≡ false) ys → ranked before (y ∷ ys) ≡ y ∷ ranked before (filter (before y) (y ∷ ys))
+first_here : {X : Type 0} {before apart : X → X → Bool} (ranks : Ordering before apart) (y : X) (ys : List X) → AllByRecursion (λ z. apart y z ≡ true) ys → AllByRecursion (λ z. before z y ≡ false) ys → ranked before (y ∷ ys) ≡ y ∷ ranked before (filter (before y) (y ∷ ys))
 first_here {X} {before} ranks y ys told none =
     let lead = all_first ranks y ys told none in
     rw (ranks.never_itself y, kept_whole (before y) ys lead) (placed_first before y (ranked before ys) (all_ranked before (λ z. before y z ≡ true) ys lead))
 
-pub ranked_first : {X : Type 0} {before apart : X → X → Bool} (ranks : Ordering before apart) (x : X) (xs : List X) → Apart apart xs → OneOf x xs → All (λ y. before y x ≡ false) xs → ranked before xs ≡ x ∷ ranked before (filter (before x) xs)
+pub ranked_first : {X : Type 0} {before apart : X → X → Bool} (ranks : Ordering before apart) (x : X) (xs : List X) → Apart apart xs → OneOf x xs → AllByRecursion (λ y. before y x ≡ false) xs → ranked before xs ≡ x ∷ ranked before (filter (before x) xs)
 ranked_first ranks x [] told here none = absurd here
 ranked_first {X} {before} ranks x (y ∷ ys) told (inl e) none =
-    let P : X → Type 0 = λ v. All (λ z. before z v ≡ false) ys → ranked before (y ∷ ys) ≡ v ∷ ranked before (filter (before v) (y ∷ ys)) in
+    let P : X → Type 0 = λ v. AllByRecursion (λ z. before z v ≡ false) ys → ranked before (y ∷ ys) ≡ v ∷ ranked before (filter (before v) (y ∷ ys)) in
     subst P e (first_here ranks y ys told.0) none.1
 ranked_first {X} {before} {apart} ranks x (y ∷ ys) told (inr i) none =
     let rest = ranked_first ranks x ys told.1 i none.1 in
@@ -112,13 +112,13 @@ ranked_first {X} {before} {apart} ranks x (y ∷ ys) told (inr i) none =
 -- each item comes before all that stand behind it
 abbrev pub ByMerit : {X : Type 0} → (X → X → Bool) → List X → Type 0
 ByMerit before [] = Unit {0}
-ByMerit before (x ∷ xs) = All (λ y. before x y ≡ true) xs × ByMerit before xs
+ByMerit before (x ∷ xs) = AllByRecursion (λ y. before x y ≡ true) xs × ByMerit before xs
 
-all_carried : {X : Type 0} {before apart : X → X → Bool} (ranks : Ordering before apart) (x y : X) (ys : List X) → before x y ≡ true → All (λ z. before y z ≡ true) ys → All (λ z. before x z ≡ true) ys
+all_carried : {X : Type 0} {before apart : X → X → Bool} (ranks : Ordering before apart) (x y : X) (ys : List X) → before x y ≡ true → AllByRecursion (λ z. before y z ≡ true) ys → AllByRecursion (λ z. before x z ≡ true) ys
 all_carried ranks x y [] h k = tt
 all_carried ranks x y (z ∷ zs) h k = (ranks.carries x y z h k.0, all_carried ranks x y zs h k.1)
 
-placed_by_merit : {X : Type 0} {before apart : X → X → Bool} (ranks : Ordering before apart) (x : X) (ys : List X) → All (λ y. apart x y ≡ true) ys → ByMerit before ys → ByMerit before (placed before x ys)
+placed_by_merit : {X : Type 0} {before apart : X → X → Bool} (ranks : Ordering before apart) (x : X) (ys : List X) → AllByRecursion (λ y. apart x y ≡ true) ys → ByMerit before ys → ByMerit before (placed before x ys)
 placed_by_merit ranks x [] told h = (tt, tt)
 placed_by_merit {X} {before} ranks x (y ∷ ys) told h =
     cond_both (before x y) (x ∷ y ∷ ys) (y ∷ placed before x ys) (ByMerit before)
@@ -130,7 +130,7 @@ ranked_by_merit ranks [] told = tt
 ranked_by_merit {X} {before} {apart} ranks (x ∷ xs) told =
     placed_by_merit ranks x (ranked before xs) (all_ranked before (λ y. apart x y ≡ true) xs told.0) (ranked_by_merit ranks xs told.1)
 
-placed_apart : {X : Type 0} (before apart : X → X → Bool) → ((x y : X) → apart x y ≡ true → apart y x ≡ true) → (x : X) (ys : List X) → All (λ y. apart x y ≡ true) ys → Apart apart ys → Apart apart (placed before x ys)
+placed_apart : {X : Type 0} (before apart : X → X → Bool) → ((x y : X) → apart x y ≡ true → apart y x ≡ true) → (x : X) (ys : List X) → AllByRecursion (λ y. apart x y ≡ true) ys → Apart apart ys → Apart apart (placed before x ys)
 placed_apart before apart both x [] told h = (tt, tt)
 placed_apart before apart both x (y ∷ ys) told h =
     cond_both (before x y) (x ∷ y ∷ ys) (y ∷ placed before x ys) (Apart apart)

@@ -1,6 +1,6 @@
 -- What the two sides of a book have together. Assumes nothing.
 use Rattle.std.proofs.Common.{◌≡◌, ℕ, suc, ◌+◌, ◌-◌, ◌≤◌, min, Bool, true, false, cond, eqb, List, [], ◌∷◌, length, sum_by, filter, sym, refl, ap, ◌∙◌, subst, inl, inr, ⊎_elim, arith}
-use Rattle.std.specs.List.{AllByRecursion as All}
+use Rattle.std.specs.List.{AllByRecursion}
 use Rattle.std.proofs.ByRecursion.{all_kept_by, All-weaker}
 use Rattle.std.proofs.lemmas.List.Sums.{sum_by-cons}
 use Rattle.std.proofs.lemmas.Bool.{and_parts, both_ways, cases_Bool, cond_both, eq-eqb, eqb-true, ne_eqb, not-true}
@@ -60,14 +60,14 @@ held_cons : (k : ℕ) (x : Order) (xs : List Order) → held k (x ∷ xs) ≡ co
 held_cons k x xs = sum_by-cons (λ (y : Order). cond (eqb y.number k) y.left 0) x xs
 
 -- an order's number is its own
-held_none : (k : ℕ) (xs : List Order) → All (λ x. eqb x.number k ≡ false) xs → held k xs ≡ 0
+held_none : (k : ℕ) (xs : List Order) → AllByRecursion (λ x. eqb x.number k ≡ false) xs → held k xs ≡ 0
 held_none k [] h = refl
 held_none k (x ∷ xs) h = held_cons k x xs ∙ rw h.0 (omega (arith, held_none k xs h.1))
 
 other_back : (x y : Order) → other_number x y ≡ true → eqb y.number x.number ≡ false
 other_back x y h = ne_eqb y.number x.number (λ e. both_ways (eqb x.number y.number) (not-true (eqb x.number y.number) h) (eq-eqb x.number y.number (sym e)))
 
-held_here : (x : Order) (xs : List Order) → All (λ y. other_number x y ≡ true) xs → held x.number (x ∷ xs) ≡ x.left
+held_here : (x : Order) (xs : List Order) → AllByRecursion (λ y. other_number x y ≡ true) xs → held x.number (x ∷ xs) ≡ x.left
 held_here x xs told =
     held_cons x.number x xs
     ∙ rw (eq-eqb x.number x.number refl) (omega (arith, held_none x.number xs (All-weaker (λ y. other_number x y ≡ true) (λ y. eqb y.number x.number ≡ false) (other_back x) xs told)))
@@ -83,7 +83,7 @@ held_own x (y ∷ ys) told (inr i) =
 pub held_lost : (p : Order → Bool) (x : Order) (lines : List Order) → Apart other_number lines → OneOf x lines → p x ≡ false → held x.number (filter p lines) ≡ 0
 held_lost p x [] told i off = absurd i
 held_lost p x (y ∷ ys) told (inl e) off =
-    let gone : All (λ (z : Order). eqb z.number x.number ≡ false) ys = subst (λ (v : Order). All (λ (z : Order). eqb z.number v.number ≡ false) ys) e (All-weaker (λ z. other_number y z ≡ true) (λ z. eqb z.number y.number ≡ false) (other_back y) ys told.0) in
+    let gone : AllByRecursion (λ (z : Order). eqb z.number x.number ≡ false) ys = subst (λ (v : Order). AllByRecursion (λ (z : Order). eqb z.number v.number ≡ false) ys) e (All-weaker (λ z. other_number y z ≡ true) (λ z. eqb z.number y.number ≡ false) (other_back y) ys told.0) in
     rw (ap p e ∙ off) (held_none x.number (filter p ys) (all_kept_by p (λ z. eqb z.number x.number ≡ false) ys gone))
 held_lost p x (y ∷ ys) told (inr i) off =
     let rest = held_lost p x ys told.1 i off in

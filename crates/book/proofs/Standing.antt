@@ -1,6 +1,6 @@
 -- What is known of lines that stand in a book. Assumes nothing.
 use Rattle.std.proofs.Common.{◌≡◌, ℕ, ◌+◌, ◌<◌, ◌≤◌, true, false, not, ◌&&◌, ltb, leb, List, [], ◌∷◌, length, get_or, drop, ap, ◌∙◌, arith}
-use Rattle.std.specs.List.{AllByRecursion as All}
+use Rattle.std.specs.List.{AllByRecursion}
 use Rattle.std.proofs.ByRecursion.{All-weaker}
 use Rattle.std.proofs.lemmas.List.{at_drop_more, at_drop_all}
 use Rattle.std.proofs.lemmas.Bool.{and_parts, le-leb, leb-true, ltb-true, ne_eqb}
@@ -54,21 +54,21 @@ follow_parts last next x h =
 
 pub record Standing (lines : List Order) : Type 0 where
   pub few : length lines ≤ 1024
-  pub each : All Line lines
+  pub each : AllByRecursion Line lines
   pub apart : Apart other_number lines
 
 pub standing_parts : (last next : ℕ) (x : Order) (xs : List Order) → standing last next (x ∷ xs) ≡ true → (may_follow last next x ≡ true) × (standing x.number next xs ≡ true)
 unfolding standing
 standing_parts last next x xs h = and_parts (may_follow last next x) (standing x.number next xs) h
 
-above_last : (last next : ℕ) (lines : List Order) → standing last next lines ≡ true → All (λ y. last < y.number) lines
+above_last : (last next : ℕ) (lines : List Order) → standing last next lines ≡ true → AllByRecursion (λ y. last < y.number) lines
 above_last last next [] h = tt
 above_last last next (x ∷ xs) h =
     let parts = standing_parts last next x xs h in
     let up = (follow_parts last next x parts.0).0 in
     (up, All-weaker (λ y. x.number < y.number) (λ y. last < y.number) (λ y k. omega arith) xs (above_last x.number next xs parts.1))
 
-each_line : (last next : ℕ) (lines : List Order) → standing last next lines ≡ true → All Line lines
+each_line : (last next : ℕ) (lines : List Order) → standing last next lines ≡ true → AllByRecursion Line lines
 each_line last next [] h = tt
 each_line last next (x ∷ xs) h =
     let parts = standing_parts last next x xs h in

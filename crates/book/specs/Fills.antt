@@ -1,6 +1,6 @@
 -- Fills: how the trading shares are dealt out. Assumes nothing.
 use Rattle.std.specs.Prelude.{◌≡◌, ℕ, ◌-◌, ◌<◌, ◌≤◌, min, Bool, true, cond, not, ◌&&◌, List, [], ◌∷◌, ◌++◌, drop, Some, None, Ok, Err, sum_by, filter, Option, Result, ◌==◌}
-use Rattle.std.specs.List.{AllByRecursion as All}
+use Rattle.std.specs.List.{AllByRecursion}
 use Rattle.terms.specs.declared.refusal.Refusal.{Refusal}
 use Rattle.book.specs.Depths.{trading as trading_at}
 use Rattle.book.specs.Orders.{accepts}
@@ -48,7 +48,7 @@ pub record Fair (before : Order → Order → Bool) (price trading : ℕ) (lines
   -- no order gains more than it has left
   pub most : (x : Order) → OneOf x lines → gained x.number (all_fills before price trading lines) ≤ x.left
   -- only orders that gain a share have a record
-  pub some : All (λ f. 0 < f.shares) (all_fills before price trading lines)
+  pub some : AllByRecursion (λ f. 0 < f.shares) (all_fills before price trading lines)
 
 -- ---- for the code
 -- orders of different numbers

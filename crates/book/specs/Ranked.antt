@@ -1,6 +1,6 @@
 -- Items in the order of their merit. Assumes nothing.
 use Rattle.std.specs.Prelude.{◌≡◌, Bool, true, cond, ◌⊎◌, List, [], ◌∷◌}
-use Rattle.std.specs.List.{AllByRecursion as All}
+use Rattle.std.specs.List.{AllByRecursion}
 
 -- x put in its place among items in order
 abbrev pub placed : {X : Type 0} → (X → X → Bool) → X → List X → List X
@@ -14,7 +14,7 @@ ranked before (x ∷ xs) = placed before x (ranked before xs)
 -- any two of the items are told apart
 abbrev pub Apart : {X : Type 0} → (X → X → Bool) → List X → Type 0
 Apart apart [] = Unit {0}
-Apart apart (x ∷ xs) = All (λ y. apart x y ≡ true) xs × Apart apart xs
+Apart apart (x ∷ xs) = AllByRecursion (λ y. apart x y ≡ true) xs × Apart apart xs
 
 -- x is one of the items
 abbrev pub OneOf : {X : Type 0} → X → List X → Type 0

@@ -1,6 +1,6 @@
 -- What a period's sums come to, and its Reference Price. Assumes nothing.
 use Rattle.std.proofs.Common.{◌≡◌, ℕ, ◌+◌, ◌<◌, true, false, cond, eqb, List, [], ◌∷◌, ◌++◌, None, refl, ap, ◌∙◌, arith}
-use Rattle.std.specs.List.{AllByRecursion as All}
+use Rattle.std.specs.List.{AllByRecursion}
 use Rattle.std.proofs.lemmas.Bool.{cond-true, cond-false, eq-eqb, ne_eqb, or_parts, true≢false, false≢true}
 use Rattle.terms.specs.Trades.{turnover_of}
 use Rattle.sheet.specs.declared.gate.Gate.{Gate}
@@ -74,7 +74,7 @@ run terms s (e ∷ es) h =
     let more = run terms (next terms s e) es parts.1 in
     record { volume = omega (arith, one.volume, more.volume); reference = more.reference ∙ one.reference }
 
-run_bounded : (terms : Terms) (s : Sheet) (es : List Event) (low high : ℕ) → ends_in terms s es ≡ false → All (Priced low high) es → Bounded low high s.volume s.turnover → Bounded low high (after terms s es).volume (after terms s es).turnover
+run_bounded : (terms : Terms) (s : Sheet) (es : List Event) (low high : ℕ) → ends_in terms s es ≡ false → AllByRecursion (Priced low high) es → Bounded low high s.volume s.turnover → Bounded low high (after terms s es).volume (after terms s es).turnover
 run_bounded terms s [] low high h priced b = b
 run_bounded terms s (e ∷ es) low high h priced b =
     let parts = or_parts (ends terms s e) (ends_in terms (next terms s e) es) h in
@@ -91,7 +91,7 @@ traded_last : (es : List Event) (last : Event) → traded (es ++ last ∷ []) �
 traded_last [] last = omega arith
 traded_last (e ∷ es) last = let more = traded_last es last in omega arith
 
-priced_last : (low high : ℕ) (es : List Event) (last : Event) → All (Priced low high) (es ++ last ∷ []) → All (Priced low high) es × Priced low high last
+priced_last : (low high : ℕ) (es : List Event) (last : Event) → AllByRecursion (Priced low high) (es ++ last ∷ []) → AllByRecursion (Priced low high) es × Priced low high last
 priced_last low high [] last h = (tt, h.0)
 priced_last low high (e ∷ es) last h = let more = priced_last low high es last h.1 in ((h.0, more.0), more.1)
 
