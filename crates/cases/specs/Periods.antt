@@ -52,7 +52,7 @@ march s = opened (terms_of bank) s (day 20240308 refl)
 abbrev pub next_year : Sheet → Sheet
 next_year s = opened (terms_of bank) s (day 20250110 refl)
 
--- the example of docs/RULES.md: what stands on the sheet, IsLine by IsLine
+-- the example of docs/RULES.md: what stands on the sheet, line by line
 abbrev pub IsLine : Gate → ℕ → ℕ → ℕ → ℕ → ℕ → Sheet → Type 0
 IsLine gate limit reference volume intermediate recent s =
     (s.gate ≡ gate) × (s.limit ≡ limit) × (s.reference ≡ reference) × (s.volume ≡ volume) × (s.intermediate ≡ intermediate) × (s.recent ≡ recent)
