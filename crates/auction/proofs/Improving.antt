@@ -1,5 +1,5 @@
 -- One step of the search by candidates. Assumes nothing.
-use Rattle.std.proofs.Common.{◌≡◌, ℕ, zero, suc, ◌+◌, ◌-◌, ◌<◌, ◌≤◌, Bool, true, false, List, [], ◌∷◌, length, get_or, take, Some, None, Option, sym, refl, ap, ◌∙◌, subst, inl, inr, ⊎_elim, arith}
+use Rattle.std.proofs.Common.{◌≡◌, ℕ, ◌+◌, ◌-◌, ◌<◌, ◌≤◌, Bool, true, false, List, length, get_or, take, Some, None, Option, sym, refl, ap, ◌∙◌, subst, inl, inr, ⊎_elim, arith}
 use Rattle.std.specs.List.{AllByRecursion}
 use Rattle.std.proofs.ByRecursion.{All-from_get_or, All-more, All-weaker}
 use Rattle.std.proofs.lemmas.List.{take_all}
@@ -10,7 +10,8 @@ use Rattle.book.specs.Ranked.{OneOf}
 use Rattle.book.specs.Merits.{Chosen}
 use Rattle.book.specs.Orders.{free}
 use Rattle.book.specs.declared.order.Order.{Order}
-use Rattle.auction.specs.Found.{Behind, three, Taken, Foremost, Rightly, Tried, Improves, Searched}
+use Rattle.book.proofs.Rankings.{one_get_or}
+use Rattle.auction.specs.Found.{Behind, three, Taken, Foremost, Rightly, Tried, Improves}
 use Rattle.auction.specs.Marks.{mark, marked, ahead, leads, trades}
 use Rattle.auction.specs.Turns.{turn}
 use Rattle.auction.specs.declared.mark.RungMark.{RungMark}
@@ -18,12 +19,13 @@ use Rattle.auction.specs.declared.merit.Candidate.{Candidate}
 use Rattle.auction.proofs.Candidates.{covers}
 use Rattle.auction.specs.Ranks.{ahead_carries}
 
--- ---- what the choice of the first among candidates tells
-one_get_or : {X : Type 0} (xs : List X) (i : ℕ) (d : X) → i < length xs → OneOf (get_or xs i d) xs
-one_get_or [] i d lt = absurd (omega arith)
-one_get_or (x ∷ xs) zero d lt = inl refl
-one_get_or (x ∷ xs) (suc i) d lt = inr (one_get_or xs i d (omega arith))
+-- the best once the reference and the turns of the first n lines were tried
+pub record Searched (rungs : Rungs) (lines : List Order) (reference n : ℕ) (best : Option RungMark) : Type 0 where
+  pub rightly : Rightly rungs lines reference best
+  pub here : Tried rungs lines reference reference reference best
+  pub each : AllByRecursion (λ x. Tried rungs lines reference (turn x - 1) (turn x) best) (take n lines)
 
+-- ---- what the choice of the first among candidates tells
 nothing_behind : (a m : RungMark) → trades (Some a) ≡ false → 0 < m.shares → ahead a m ≡ false
 nothing_behind a m h k = grind (arith, nat_tests)
 

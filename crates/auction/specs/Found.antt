@@ -1,11 +1,10 @@
 -- The steps of the search by candidates. Assumes nothing.
-use Rattle.std.specs.Prelude.{◌≡◌, ℕ, ◌-◌, ◌<◌, ◌≤◌, false, List, [], ◌∷◌, take, Some, None, Option}
+use Rattle.std.specs.Prelude.{◌≡◌, ℕ, ◌<◌, ◌≤◌, false, List, [], ◌∷◌, Some, None, Option}
 use Rattle.std.specs.List.{AllByRecursion}
 use Rattle.ladder.specs.Rungs.{Rungs, In}
 use Rattle.book.specs.Ranked.{OneOf}
 use Rattle.book.specs.declared.order.Order.{Order}
 use Rattle.auction.specs.Marks.{mark, trades, leads}
-use Rattle.auction.specs.Turns.{turn}
 use Rattle.auction.specs.declared.mark.RungMark.{RungMark}
 use Rattle.auction.specs.declared.merit.Candidate.{Candidate}
 
@@ -43,9 +42,3 @@ pub record Improves (rungs : Rungs) (lines : List Order) (reference low high : �
   pub rightly : Rightly rungs lines reference old → Rightly rungs lines reference best
   pub keeps : (x : Option RungMark) → Behind old x → Behind best x
   pub tried : Tried rungs lines reference low high best
-
--- the best once the reference and the turns of the first n lines were tried
-pub record Searched (rungs : Rungs) (lines : List Order) (reference n : ℕ) (best : Option RungMark) : Type 0 where
-  pub rightly : Rightly rungs lines reference best
-  pub here : Tried rungs lines reference reference reference best
-  pub each : AllByRecursion (λ x. Tried rungs lines reference (turn x - 1) (turn x) best) (take n lines)

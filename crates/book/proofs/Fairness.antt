@@ -15,7 +15,7 @@ use Rattle.book.specs.declared.order.Side.{Side}
 use Rattle.book.specs.declared.order.Side.TheVariants.{Buy, Sell}
 use Rattle.book.proofs.Filling.{kept_told}
 use Rattle.book.proofs.Orderings.{Ordering}
-use Rattle.book.proofs.Rankings.{ByMerit, ranked_by_merit, ranked_apart, one_ranked, one_kept_of, all_one, all_ranked, apart_kept, sum_by-ranked, sum_by_kept}
+use Rattle.book.proofs.Rankings.{ranked_by_merit, ranked_apart, one_ranked, one_kept_of, all_one, all_ranked, apart_kept, sum_by-ranked, sum_by_kept}
 use Rattle.book.proofs.Sides.{held_own, held_both, fills_held}
 use Rattle.book.proofs.Standing.{Line, Standing}
 
@@ -101,7 +101,7 @@ module _ {before : Order → Order → Bool} (ranks : Ordering before told_apart
       let other : eqb x.number c.number ≡ false = told_number x c (all_one (λ y. told_apart x y ≡ true) c xs told ic) in
       omega (arith, gained_cons c.number n x xs ∙ ap (λ t. cond t (min n x.left) 0 + gained c.number (dealt (n - x.left) xs)) other)
 
-  whole_next : (n : ℕ) (x : Order) (xs : List Order) → ByMerit before (x ∷ xs) → Apart told_apart (x ∷ xs) → (OneOf a xs → OneOf b xs → Whole (dealt (n - x.left) xs)) → OneOf a (x ∷ xs) → OneOf b (x ∷ xs) → Whole (fill_of n x ∷ dealt (n - x.left) xs)
+  whole_next : (n : ℕ) (x : Order) (xs : List Order) → Apart before (x ∷ xs) → Apart told_apart (x ∷ xs) → (OneOf a xs → OneOf b xs → Whole (dealt (n - x.left) xs)) → OneOf a (x ∷ xs) → OneOf b (x ∷ xs) → Whole (fill_of n x ∷ dealt (n - x.left) xs)
   whole_next n x xs sorted told on (inl ea) (inl eb) h = absurd (never x (ap (before x) eb ∙ ap (λ v. before v b) ea ∙ front))
   whole_next n x xs sorted told on (inl ea) (inr ib) h =
       let P : Order → Type 0 = λ v. AllByRecursion (λ z. told_apart v z ≡ true) xs → Whole (fill_of n v ∷ dealt (n - v.left) xs) in
@@ -111,7 +111,7 @@ module _ {before : Order → Order → Bool} (ranks : Ordering before told_apart
   whole_next n x xs sorted told on (inr ia) (inr ib) h =
       passed n x xs a told.0 ia ∙ on ia ib (omega (arith, h, passed n x xs b told.0 ib))
 
-  whole : (n : ℕ) (xs : List Order) → ByMerit before xs → Apart told_apart xs → OneOf a xs → OneOf b xs → Whole (dealt n xs)
+  whole : (n : ℕ) (xs : List Order) → Apart before xs → Apart told_apart xs → OneOf a xs → OneOf b xs → Whole (dealt n xs)
   whole n [] sorted told ia ib = absurd ia
   whole n (x ∷ xs) sorted told ia ib =
       ⊎_elim

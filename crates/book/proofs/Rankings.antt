@@ -108,24 +108,19 @@ ranked_first {X} {before} {apart} ranks x (y ∷ ys) told (inr i) none =
     let lead : before x y ≡ true = comes_first ranks x y (all_one (λ z. apart y z ≡ true) x ys told.0 i) none.0 in
     rw (rest, none.0, lead)
 
--- ---- the ranked list stands by merit
--- each item comes before all that stand behind it
-abbrev pub ByMerit : {X : Type 0} → (X → X → Bool) → List X → Type 0
-ByMerit before [] = Unit {0}
-ByMerit before (x ∷ xs) = AllByRecursion (λ y. before x y ≡ true) xs × ByMerit before xs
-
+-- ---- the ranked list stands by merit: each item comes before all that stand behind it, so any two are told apart by `before`
 all_carried : {X : Type 0} {before apart : X → X → Bool} (ranks : Ordering before apart) (x y : X) (ys : List X) → before x y ≡ true → AllByRecursion (λ z. before y z ≡ true) ys → AllByRecursion (λ z. before x z ≡ true) ys
 all_carried ranks x y [] h k = tt
 all_carried ranks x y (z ∷ zs) h k = (ranks.carries x y z h k.0, all_carried ranks x y zs h k.1)
 
-placed_by_merit : {X : Type 0} {before apart : X → X → Bool} (ranks : Ordering before apart) (x : X) (ys : List X) → AllByRecursion (λ y. apart x y ≡ true) ys → ByMerit before ys → ByMerit before (placed before x ys)
+placed_by_merit : {X : Type 0} {before apart : X → X → Bool} (ranks : Ordering before apart) (x : X) (ys : List X) → AllByRecursion (λ y. apart x y ≡ true) ys → Apart before ys → Apart before (placed before x ys)
 placed_by_merit ranks x [] told h = (tt, tt)
 placed_by_merit {X} {before} ranks x (y ∷ ys) told h =
-    cond_both (before x y) (x ∷ y ∷ ys) (y ∷ placed before x ys) (ByMerit before)
+    cond_both (before x y) (x ∷ y ∷ ys) (y ∷ placed before x ys) (Apart before)
     (λ t. ((t, all_carried ranks x y ys t h.0), h))
     (λ f. (all_placed before (λ z. before y z ≡ true) x ys (comes_first ranks y x told.0 f) h.0, placed_by_merit ranks x ys told.1 h.1))
 
-pub ranked_by_merit : {X : Type 0} {before apart : X → X → Bool} (ranks : Ordering before apart) (xs : List X) → Apart apart xs → ByMerit before (ranked before xs)
+pub ranked_by_merit : {X : Type 0} {before apart : X → X → Bool} (ranks : Ordering before apart) (xs : List X) → Apart apart xs → Apart before (ranked before xs)
 ranked_by_merit ranks [] told = tt
 ranked_by_merit {X} {before} {apart} ranks (x ∷ xs) told =
     placed_by_merit ranks x (ranked before xs) (all_ranked before (λ y. apart x y ≡ true) xs told.0) (ranked_by_merit ranks xs told.1)

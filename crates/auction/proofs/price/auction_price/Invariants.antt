@@ -1,4 +1,4 @@
-use Rattle.auction.specs.Found.{Searched}
+use Rattle.auction.proofs.Improving.{Searched}
 use Rattle.auction.proofs.price.auction_price.Given as goal
 
 abbrev pub invariant-loop-line : goal.invariant-loop-line
