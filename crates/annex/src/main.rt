@@ -10,15 +10,11 @@ use totals::Totals;
 
 // Prints a line for each line of the input, and then the totals.
 fn try_input(rt: &HostRuntime) -> anyhow::Result<()> {
-    let mut totals = Totals {
-        lines: 0,
-        tried: 0,
-        agreed: 0,
-    };
+    let mut totals = Totals::default();
     for line in BufReader::new(rt.alloc(), rt.stdin())?.split(rt.alloc(), b'\n') {
-        rt.println(totals.add(rt.alloc(), &line?)?)?;
+        rt.println(totals.add(&line?))?;
     }
-    rt.println(totals.line(rt.alloc())?)?;
+    rt.println(totals)?;
     Ok(())
 }
 

@@ -1,7 +1,7 @@
 ghost use Rattle.std.specs.Prelude.{◌≡◌, Some, None, MatchOption};
-ghost use Rattle.annex.specs.Rows.{SaysRow, amount, read_row};
+ghost use Rattle.annex.specs.Rows.{SaysRow, amounts, read_row};
 
-use text::{read_euros, split_once};
+use text::read_euros;
 
 /// A row of the tick table: where it starts and the step of each of six liquidity bands, in ten-thousandths of a euro.
 #[derive(Clone, Copy)]
@@ -11,27 +11,31 @@ pub struct Row {
 }
 
 /// A row as text: seven amounts of decimal euros parted by semicolons. None where the text is anything else.
+// Bytes, here and in whoever asks for a row, since a line of input may hold any.
+#[tactic(auto, using(crate::proofs::Fields::row_reads, crate::proofs::Fields::row_of_seven))]
 pub fn read_row(line: &[u8]) -> Option<Row>
     ensures value { result ≡ read_row line.now }
     ensures says { MatchOption result ((row : Row) → SaysRow line.now row → ⊥) (SaysRow line.now) }
 {
-    let (start, line) = amount(line)?;
-    let (first, line) = amount(line)?;
-    let (second, line) = amount(line)?;
-    let (third, line) = amount(line)?;
-    let (fourth, line) = amount(line)?;
-    let (fifth, line) = amount(line)?;
-    let sixth = read_euros(line)?;
+    let [start, first, second, third, fourth, fifth, sixth] = read_amounts(line)?;
     Some(Row {
         start,
         steps: [first, second, third, fourth, fifth, sixth],
     })
 }
 
-/// The amount before the first semicolon, and the text after it.
-fn amount(line: &[u8]) -> Option<(u64, &[u8])>
-    ensures { MatchOption result (amount line.now ≡ None) (λ p. amount line.now ≡ Some (p.0, p.1.now)) }
+// Seven amounts of decimal euros parted by semicolons. None where the text is anything else.
+#[tactic(auto, using(crate::proofs::Reading::seven_done, crate::proofs::Reading::seven_eighth))]
+fn read_amounts(line: &[u8]) -> Option<[u64; 7]>
+    ensures { result ≡ amounts 6 line.now }
 {
-    let (field, rest) = split_once(line, b';')?;
-    Some((read_euros(field)?, rest))
+    let mut fields = line.split(|byte| *byte == b';');
+    let mut amounts = [0; 7];
+    for amount in &mut amounts {
+        *amount = read_euros(fields.next()?)?;
+    }
+    if fields.next().is_some() {
+        return None;
+    }
+    Some(amounts)
 }

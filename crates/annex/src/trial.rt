@@ -1,9 +1,11 @@
-ghost use Rattle.std.specs.Prelude.{◌≡◌, ◌++◌, IfOk, string_bytes, OnOk};
+ghost use Rattle.std.specs.Prelude.{◌≡◌, IsTrue, Some};
+ghost use Rattle.ladder.specs.Bands.{start, step_of, row_of};
+ghost use Rattle.terms.specs.Prices.{within};
 ghost use Rattle.annex.specs.Trials.{table_row, tried, agreed, beside, besides, verdict, shown_trial};
 
 use crate::row::{Row, read_row};
-use ladder::Table;
-use std::alloc::{AllocError, Global};
+use ladder::{Table, TableRow};
+use std::{array, fmt};
 
 /// A row that is given beside the row that the table ladders have where it starts.
 #[derive(Clone, Copy)]
@@ -18,8 +20,8 @@ impl Trial {
         ensures { result ≡ tried line.now }
     {
         let given = read_row(line)?;
-        let start = given.start.min(u64::from(u32::MAX));
-        let held = table_row(start as u32);
+        let start = u32::try_from(given.start).unwrap_or(u32::MAX);
+        let held = table_row(start);
         Some(Trial { given, held })
     }
 
@@ -27,16 +29,15 @@ impl Trial {
     pub fn agreed(&self) -> u64
         ensures { result ≡ agreed self.now }
     {
-        let mut count = 0;
-        for i in 0..6 {
-            if self.given.steps[i] == self.held.steps[i] {
-                count += 1;
-            }
-        }
-        count
+        self.given
+            .steps
+            .iter()
+            .zip(&self.held.steps)
+            .filter(|(given, held)| given == held)
+            .count() as u64
     }
 
-    // What a line of text ends with.
+    // What a line of text ends with. It goes by the count that the totals take too, and no derived `==` of rows.
     fn verdict(&self) -> &'static str
         ensures { result.now ≡ verdict self.now }
     {
@@ -46,17 +47,50 @@ impl Trial {
             ""
         }
     }
+}
 
-    /// The start and the six steps as a line of text, each with what the table has where that is another, or `agree`.
-    pub fn line(&self, heap: Global) -> Result<String, AllocError>
-        ensures { IfOk result (λ s. string_bytes s ≡ shown_trial self.now) }
-    {
-        let mut out = String::from_str(heap, "from")?;
-        put_beside(&mut out, self.given.start, self.held.start)?;
-        out.push_str(":")?;
-        put_besides(&mut out, &self.given.steps, &self.held.steps)?;
-        out.push_str(self.verdict())?;
-        Ok(out)
+/// The start and the six steps as a line of text, each with what the table has where that is another, or `agree`.
+impl fmt::Display for Trial {
+    ghost output = { λ t. Some (shown_trial t) };
+
+    fn fmt<W: fmt::Write>(&self, f: &mut fmt::Formatter<W>) -> fmt::Result {
+        let start = Beside(self.given.start, self.held.start);
+        let steps = Besides(&self.given.steps, &self.held.steps);
+        let verdict = self.verdict();
+        write!(f, "from{start}:{steps}{verdict}")
+    }
+}
+
+// An amount that is given, and the table's where that is another.
+#[derive(Clone, Copy)]
+struct Beside(u64, u64);
+
+impl fmt::Display for Beside {
+    ghost output = { λ b. Some (beside b.0 b.1) };
+
+    fn fmt<W: fmt::Write>(&self, f: &mut fmt::Formatter<W>) -> fmt::Result {
+        let Beside(given, held) = *self;
+        if given == held {
+            write!(f, " {given}")
+        } else {
+            write!(f, " {given} (the table has {held})")
+        }
+    }
+}
+
+// The same of six amounts.
+#[derive(Clone, Copy)]
+struct Besides<'a>(&'a [u64; 6], &'a [u64; 6]);
+
+impl fmt::Display for Besides<'_> {
+    ghost output = { λ b. Some (besides b.0.now b.1.now) };
+
+    fn fmt<W: fmt::Write>(&self, f: &mut fmt::Formatter<W>) -> fmt::Result {
+        let Besides(given, held) = *self;
+        for (given, held) in given.iter().zip(held) {
+            write!(f, "{}", Beside(*given, *held))?;
+        }
+        Ok(())
     }
 }
 
@@ -64,42 +98,17 @@ impl Trial {
 fn table_row(p: u32) -> Row
     ensures { result ≡ table_row p }
 {
-    let mut row = Row {
-        start: 0,
-        steps: [0; 6],
-    };
-    for i in 0..6 {
-        let Ok(table) = Table::new(i as u64 + 1) else {
-            unreachable()
-        };
-        let at = table.row_at(p);
-        row.start = u64::from(at.start);
-        row.steps[i] = u64::from(at.step);
-    }
-    row
-}
-
-// Writes an amount that is given, and the table's where that is another.
-fn put_beside(out: &mut String, given: u64, held: u64) -> Result<(), AllocError>
-    ensures { OnOk result (string_bytes out.new ≡ string_bytes out.old ++ beside given held) }
-{
-    let written = if given == held {
-        write!(out, " {given}")
-    } else {
-        write!(out, " {given} (the table has {held})")
-    };
-    match written {
-        Ok(()) => Ok(()),
-        Err(_) => Err(AllocError),
+    Row {
+        start: u64::from(band_row(1, p).start),
+        steps: array::from_fn(|i| u64::from(band_row(i as u64 + 1, p).step)),
     }
 }
 
-// The same of six amounts.
-fn put_besides(out: &mut String, given: &[u64; 6], held: &[u64; 6]) -> Result<(), AllocError>
-    ensures { OnOk result (string_bytes out.new ≡ string_bytes out.old ++ besides 6 given.now held.now) }
+// The same row as one band has it.
+fn band_row(band: u64, p: u32) -> TableRow
+    requires { IsTrue (within 1 6 band) }
+    ensures start { result.start ≡ start (row_of p) }
+    ensures step { result.step ≡ step_of (row_of p) band }
 {
-    for i in 0..6 {
-        put_beside(out, given[i], held[i])?;
-    }
-    Ok(())
+    Table::new(band).unwrap().row_at(p)
 }

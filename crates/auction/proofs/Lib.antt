@@ -2,4 +2,3 @@ pub mod Candidates
 pub mod Answering
 pub mod Improving
 pub mod Passing
-pub mod Near

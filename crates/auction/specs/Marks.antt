@@ -46,7 +46,5 @@ leads (Some a) None = false
 leads None b = false
 
 -- two marks are told apart by their prices
-abbrev pub mark_apart : Option RungMark → Option RungMark → Bool
-mark_apart (Some a) (Some b) = not (a.price == b.price)
-mark_apart (Some a) None = false
-mark_apart None b = false
+abbrev pub mark_apart : RungMark → RungMark → Bool
+mark_apart a b = not (a.price == b.price)

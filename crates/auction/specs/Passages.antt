@@ -1,6 +1,6 @@
 -- Trades at a price, whoever trades with whom. Assumes nothing.
 use Rattle.std.specs.Prelude.{◌≡◌, ℕ, ◌<◌, ◌≤◌, true, cond, List, length, Some, None, sum_by, Option, ◌==◌, slice_index_or}
-use Rattle.std.specs.List.{AllByRecursion}
+use Rattle.std.specs.List.{All}
 use Rattle.ladder.specs.Rungs.{Rungs, In}
 use Rattle.book.specs.Depths.{surplus}
 use Rattle.book.specs.Orders.{accepts, free}
@@ -28,8 +28,8 @@ sold i ps = sum_by (λ p. cond (p.seller == i) p.shares 0) ps
 
 -- possible trades at a price: each between orders that accept it, and no order trades more than it has left
 pub record Possible (lines : List Order) (price : ℕ) (ps : List Passage) : Type 0 where
-  pub buyers : AllByRecursion (λ p. (p.buyer < length lines) × (accepts Buy price (slice_index_or lines p.buyer free) ≡ true)) ps
-  pub sellers : AllByRecursion (λ p. (p.seller < length lines) × (accepts Sell price (slice_index_or lines p.seller free) ≡ true)) ps
+  pub buyers : All (λ p. (p.buyer < length lines) × (accepts Buy price (slice_index_or lines p.buyer free) ≡ true)) ps
+  pub sellers : All (λ p. (p.seller < length lines) × (accepts Sell price (slice_index_or lines p.seller free) ≡ true)) ps
   pub buys : (i : ℕ) → bought i ps ≤ (slice_index_or lines i free).left
   pub sells : (i : ℕ) → sold i ps ≤ (slice_index_or lines i free).left
 

@@ -1,5 +1,5 @@
-ghost use Rattle.std.specs.Prelude.{◌≡◌};
-ghost use Rattle.auction.specs.Marks.{ahead};
+ghost use Rattle.std.specs.Prelude.{◌≡◌, Some};
+ghost use Rattle.auction.specs.Marks.{ahead, trades};
 
 /// The mark of a rung: what would trade there.
 #[derive(Clone, Copy, PartialEq, Eq, Debug)]
@@ -14,18 +14,23 @@ pub struct RungMark {
 }
 
 impl RungMark {
+    /// Whether a share trades.
+    pub fn trades(&self) -> bool
+        ensures { result ≡ trades (Some self.now) }
+    {
+        self.shares > 0
+    }
+
     /// Whether this mark comes before `other`: more shares, then less surplus, then nearer, then higher.
     pub fn leads(&self, other: &RungMark) -> bool
         ensures { result ≡ ahead self.now other.now }
     {
-        if self.shares != other.shares {
-            self.shares > other.shares
-        } else if self.surplus != other.surplus {
-            self.surplus < other.surplus
-        } else if self.distance != other.distance {
-            self.distance < other.distance
-        } else {
-            self.price > other.price
-        }
+        let order = self
+            .shares
+            .cmp(&other.shares)
+            .then(other.surplus.cmp(&self.surplus))
+            .then(other.distance.cmp(&self.distance))
+            .then(self.price.cmp(&other.price));
+        order.is_gt()
     }
 }

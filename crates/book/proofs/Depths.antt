@@ -1,7 +1,7 @@
 -- A sum over the lines of a book fits. Assumes nothing.
 use Rattle.std.proofs.Common.{◌≡◌, ℕ, ◌+◌, ◌<◌, ◌≤◌, List, length, get_or, take, arith}
-use Rattle.std.proofs.ByRecursion.{All-weaker, sum_by_le}
-use Rattle.std.proofs.lemmas.List.Sums.{sum_by_more, sum_by-take-le}
+use Rattle.std.proofs.lemmas.List.Elements.{All-weaker}
+use Rattle.std.proofs.lemmas.List.Sums.{sum_by-le, sum_by_more, sum_by-take-le}
 use Rattle.std.proofs.lemmas.Bool.{cond_both}
 use Rattle.book.specs.Depths.{depth_on}
 use Rattle.book.specs.Orders.{accepts, shares_at, free}
@@ -15,7 +15,7 @@ shares_le side price x line = cond_both (accepts side price x) x.left 0 (λ n. n
 -- 1,024 lines have at most 102,400,000 shares
 pub depth_le : (side : Side) (price : ℕ) (lines : List Order) → Standing lines → depth_on side lines price ≤ 102400000
 depth_le side price lines stand =
-    let most = sum_by_le (shares_at side price) 100000 lines (All-weaker Line (λ x. shares_at side price x ≤ 100000) (shares_le side price) lines stand.each) in
+    let most = sum_by-le (shares_at side price) 100000 lines (All-weaker Line (λ x. shares_at side price x ≤ 100000) (shares_le side price) lines stand.each) in
     let few = stand.few in
     omega arith
 

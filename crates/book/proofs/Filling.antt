@@ -1,36 +1,31 @@
 -- One turn of the walk through a side, and its end. Assumes nothing.
-use Rattle.std.proofs.Common.{◌≡◌, ℕ, suc, ◌+◌, ◌-◌, ◌<◌, ◌≤◌, min, Bool, true, false, ◌&&◌, eqb, List, [], ◌∷◌, ◌++◌, length, get_or, take, drop, set, Some, None, filter, Option, sym, refl, ap, ◌∙◌, arith}
-use Rattle.std.specs.List.{AllByRecursion}
-use Rattle.std.proofs.ByRecursion.{All-from_get_or, All-weaker}
-use Rattle.std.proofs.lemmas.List.{append_assoc, append-nil, drop-set-lt, length-set, length-take-le, take-append-drop, take_more_set, drop-drop}
-use Rattle.std.proofs.lemmas.Bool.{and_from, and_parts, both_ways, cond_both, eq-eqb, eqb-true, ne_eqb}
+use Rattle.std.proofs.Common.{◌≡◌, ℕ, suc, ◌+◌, ◌-◌, ◌<◌, ◌≤◌, min, Bool, true, false, ◌&&◌, List, [], ◌∷◌, ◌++◌, length, get_or, take, drop, set, Some, None, filter, Option, sym, refl, ap, ◌∙◌, arith, rules}
+use Rattle.std.specs.List.{All, Contains}
+use Rattle.std.proofs.lemmas.List.Elements.{filter_passes, Contains-get_or}
+use Rattle.std.proofs.lemmas.List.Kept.{AllPairs-filter}
+use Rattle.std.proofs.lemmas.List.{append_assoc, get_or_default, append-nil, drop-set-lt, length-set, length-take-le, take-append-drop, take_more_set, drop-drop}
+use Rattle.std.proofs.lemmas.List.Sorted.{length_permutation}
+use Rattle.std.proofs.lemmas.Bool.{and_parts, both_ways, ne_eqb}
 use Rattle.book.specs.Fills.{accepting, after, dealt, fills_of, other_number, waits, waiting}
 use Rattle.book.specs.Merits.{FirstEligible, NoneEligible}
-use Rattle.book.specs.Orders.{accepts, free, on_side, side_number, told_apart, within_limit}
-use Rattle.book.specs.Ranked.{ranked, Apart, OneOf}
+use Rattle.book.specs.Orders.{accepts, free, told_apart}
+use Rattle.book.specs.Ranked.{ranked}
 use Rattle.book.specs.declared.fill.Fill.{Fill}
 use Rattle.book.specs.declared.order.Order.{Order}
 use Rattle.book.specs.declared.order.Side.{Side}
 use Rattle.book.proofs.Orderings.{Ordering}
-use Rattle.book.proofs.Rankings.{one_get_or, one_kept, all_kept, kept_none, kept_twice, length-ranked, ranked_first}
+use Rattle.book.proofs.Rankings.{Contains-filter, all_kept, kept_none, kept_twice, IsPermutation-ranked, ranked_first, Apart}
 
 -- ---- orders of a side are told apart
-side_is : (side : Side) (price : ℕ) (x : Order) → accepts side price x ≡ true → x.side ≡ side_number side
-side_is side price x h = eqb-true x.side (side_number side) (and_parts (on_side side x) (within_limit side x.limit price) h).0
-
 both_told : (side : Side) (price : ℕ) (x y : Order) → accepts side price x ≡ true → accepts side price y ≡ true → other_number x y ≡ true → told_apart x y ≡ true
-both_told side price x y ax ay other = and_from (eqb x.side y.side) (other_number x y) (eq-eqb x.side y.side (side_is side price x ax ∙ sym (side_is side price y ay))) other
+both_told side price x y ax ay other = search rules
 
 -- any that pass a test that only orders of the side that accept the price pass
 pub kept_told : (side : Side) (price : ℕ) (p : Order → Bool) → ((x : Order) → p x ≡ true → accepts side price x ≡ true) → (lines : List Order) → Apart other_number lines → Apart told_apart (filter p lines)
-kept_told side price p only [] told = tt
-kept_told side price p only (x ∷ xs) told =
-    cond_both (p x) (x ∷ filter p xs) (filter p xs) (Apart told_apart)
-    (λ px. (
-      all_kept p (λ y. told_apart x y ≡ true) xs (All-weaker (λ y. other_number x y ≡ true) (λ y. p y ≡ true → told_apart x y ≡ true) (λ y other py. both_told side price x y (only x px) (only y py) other) xs told.0),
-      kept_told side price p only xs told.1,
-    ))
-    (λ _. kept_told side price p only xs told.1)
+kept_told side price p only lines told i j d lt within =
+    let x : Order = get_or (filter p lines) i d in
+    let y : Order = get_or (filter p lines) j d in
+    both_told side price x y (only x (filter_passes p lines i d (omega arith))) (only y (filter_passes p lines j d within)) (AllPairs-filter (λ v w. other_number v w ≡ true) p lines told i j d lt within)
 
 and_then : (a b c : Bool) → (c ≡ true → a ≡ true) → ((a && b) && c) ≡ (c && b)
 and_then true true true h = refl
@@ -47,9 +42,6 @@ module _ (before : Order → Order → Bool) (lines : List Order) (side : Side) 
     pub beyond : drop count fills ≡ drop count entry
     pub room : count + length (waiting before side price last lines) ≤ length (accepting side price lines)
     pub long : length fills ≡ length entry
-
-  pub filling_none : (entry : List Fill) (trading : ℕ) → Filling entry entry trading None trading 0
-  filling_none entry trading = record { deals = refl; beyond = refl; room = omega arith; long = refl }
 
 -- the end, where nothing is left to deal or nobody waits
 pub record Filled (entry fills all : List Fill) (count : ℕ) : Type 0 where
@@ -78,20 +70,20 @@ module _ {before : Order → Order → Bool} (ranks : Ordering before told_apart
     unfolding x
     queue_next =
         let p : Order → Bool = waits before side price last in
-        let among : OneOf x (filter p lines) = one_kept p x lines (first.1 free) (one_get_or lines next free first.0) in
-        let none : AllByRecursion (λ y. before y x ≡ false) (filter p lines) = all_kept p (λ y. before y x ≡ false) lines (All-from_get_or (λ y. p y ≡ true → before y x ≡ false) lines free (λ k lt. first.2 k lt free)) in
+        let among : Contains (filter p lines) x = Contains-filter p lines x (first.1 free) (Contains-get_or lines next free first.0) in
+        let none : All (λ y. before y x ≡ false) (filter p lines) = all_kept p (λ y. before y x ≡ false) lines (λ k d lt. rw (get_or_default lines next free d first.0) (first.2 k lt d)) in
         ranked_first ranks x (filter p lines) (kept_told side price p (λ y h. (and_parts (after before last y) (accepts side price y) h).1) lines told) among none
         ∙ ap (λ zs. x ∷ ranked before zs) (kept_twice (before x) p (waits before side price (Some x)) (waits_on last x (first.1 free)) lines)
 
-    pub queue_shorter : length (waiting before side price last lines) ≡ suc (length (waiting before side price (Some (get_or lines next free)) lines))
+    queue_shorter : length (waiting before side price last lines) ≡ suc (length (waiting before side price (Some (get_or lines next free)) lines))
     unfolding x
     queue_shorter =
-        sym (length-ranked before (waiting before side price last lines)) ∙ ap length queue_next
-        ∙ ap suc (length-ranked before (waiting before side price (Some x) lines))
+        sym (length_permutation _ _ (IsPermutation-ranked before (waiting before side price last lines))) ∙ ap length queue_next
+        ∙ ap suc (length_permutation _ _ (IsPermutation-ranked before (waiting before side price (Some x) lines)))
 
-    pub filling_more : (entry fills : List Fill) (trading rest count : ℕ) → Filling before lines side price entry fills trading last rest count → length (accepting side price lines) ≤ length entry → 0 < rest → Filling before lines side price entry (set fills count (record { number = (get_or lines next free).number; shares = min rest (get_or lines next free).left })) trading (Some (get_or lines next free)) (rest - min rest (get_or lines next free).left) (count + 1)
+    more : (entry fills : List Fill) (trading rest count : ℕ) → Filling before lines side price entry fills trading last rest count → length (accepting side price lines) ≤ length entry → 0 < rest → Filling before lines side price entry (set fills count (record { number = (get_or lines next free).number; shares = min rest (get_or lines next free).left })) trading (Some (get_or lines next free)) (rest - min rest (get_or lines next free).left) (count + 1)
     unfolding x
-    filling_more entry fills trading rest count h short some =
+    more entry fills trading rest count h short some =
         let f : Fill = record { number = x.number; shares = min rest x.left } in
         let shorter = queue_shorter in
         let room = h.room in
@@ -108,22 +100,25 @@ module _ {before : Order → Order → Bool} (ranks : Ordering before told_apart
           long = length-set fills count f ∙ long;
         }
 
-  module _ (entry fills : List Fill) (trading : ℕ) (last : Option Order) (rest count : ℕ) (h : Filling before lines side price entry fills trading last rest count) (short : length (accepting side price lines) ≤ length entry) where
-    filled : dealt rest (ranked before (waiting before side price last lines)) ≡ [] → Filled entry fills (fills_of before side price trading lines) count
-    filled over =
-        let room = h.room in
-        let long = h.long in
-        let all : take count fills ≡ fills_of before side price trading lines = sym (append-nil (take count fills)) ∙ ap (λ zs. take count fills ++ zs) (sym over) ∙ h.deals in
-        record {
-          count_is = sym (length-take-le count fills (omega arith)) ∙ ap length all;
-          fills_are = sym (take-append-drop count fills) ∙ ap (λ zs. zs ++ drop count fills) all ∙ ap (λ zs. fills_of before side price trading lines ++ zs) h.beyond;
-        }
+module _ {before : Order → Order → Bool} {lines : List Order} {side : Side} {price : ℕ} {entry fills : List Fill} {trading : ℕ} {last : Option Order} {rest count : ℕ} (h : Filling before lines side price entry fills trading last rest count) (short : length (accepting side price lines) ≤ length entry) where
+  filled : dealt rest (ranked before (waiting before side price last lines)) ≡ [] → Filled entry fills (fills_of before side price trading lines) count
+  filled over =
+      let room = h.room in
+      let long = h.long in
+      let all : take count fills ≡ fills_of before side price trading lines = sym (append-nil (take count fills)) ∙ ap (λ zs. take count fills ++ zs) (sym over) ∙ h.deals in
+      record {
+        count_is = sym (length-take-le count fills (omega arith)) ∙ ap length all;
+        fills_are = sym (take-append-drop count fills) ∙ ap (λ zs. zs ++ drop count fills) all ∙ ap (λ zs. fills_of before side price trading lines ++ zs) h.beyond;
+      }
 
-    pub filled_dealt : rest ≡ 0 → Filled entry fills (fills_of before side price trading lines) count
-    filled_dealt z = filled (rw z (dealt_none (ranked before (waiting before side price last lines))))
+  pub filled_dealt : rest ≡ 0 → Filled entry fills (fills_of before side price trading lines) count
+  filled_dealt z = filled (rw z (dealt_none (ranked before (waiting before side price last lines))))
 
-    pub filled_none : NoneEligible (waits before side price last) lines (length lines) → Filled entry fills (fills_of before side price trading lines) count
-    filled_none nobody =
-        let p : Order → Bool = waits before side price last in
-        let empty : filter p lines ≡ [] = kept_none p lines (All-from_get_or (λ y. p y ≡ false) lines free (λ k lt. nobody k lt free)) in
-        filled (ap (λ zs. dealt rest (ranked before zs)) empty)
+  pub filled_none : NoneEligible (waits before side price last) lines (length lines) → Filled entry fills (fills_of before side price trading lines) count
+  filled_none nobody =
+      let p : Order → Bool = waits before side price last in
+      let empty : filter p lines ≡ [] = kept_none p lines (λ k d lt. nobody k lt d) in
+      filled (ap (λ zs. dealt rest (ranked before zs)) empty)
+
+  pub filling_more : Ordering before told_apart → Apart other_number lines → (next : ℕ) → FirstEligible (waits before side price last) before lines (length lines) next → 0 < rest → Filling before lines side price entry (set fills count (record { number = (get_or lines next free).number; shares = min rest (get_or lines next free).left })) trading (Some (get_or lines next free)) (rest - min rest (get_or lines next free).left) (count + 1)
+  filling_more ranks told next first some = more ranks lines side price told last next first entry fills trading rest count h short some

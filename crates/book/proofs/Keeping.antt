@@ -1,11 +1,8 @@
 -- Edits keep lines sound. Assumes nothing.
-use Rattle.std.proofs.Common.{◌≡◌, ℕ, ◌+◌, ◌-◌, ◌<◌, ◌≤◌, Bool, true, false, ◌&&◌, ltb, leb, List, [], ◌∷◌, ◌++◌, map, length, take, drop, replicate, filter, sym, refl, ap, ◌∙◌, ⊎_elim, arith}
+use Rattle.std.proofs.Common.{◌≡◌, ℕ, ◌+◌, ◌-◌, ◌<◌, ◌≤◌, Bool, true, false, List, [], ◌∷◌, ◌++◌, map, length, take, drop, replicate, filter, sym, refl, ap, ◌∙◌, ⊎_elim, arith, rules}
 use Rattle.std.proofs.lemmas.List.{length-append, length-drop, length-replicate, length-take, map-id, take-append-drop}
-use Rattle.std.proofs.lemmas.Bool.{and_from, and_parts, cases_Bool, le-leb, leb-true, lt-ltb, ltb-true}
-use Rattle.terms.specs.Dates.{is_date}
-use Rattle.terms.specs.Prices.{within, within_ends, is_price}
+use Rattle.std.proofs.lemmas.Bool.{cases_Bool}
 use Rattle.book.specs.Edits.{is_unfilled, Leaves, less_fills, posted}
-use Rattle.book.specs.Fills.{gained}
 use Rattle.book.specs.Laws.{EntrySound, PostingSound, RemovalSound}
 use Rattle.book.specs.Orders.{free}
 use Rattle.book.specs.Sounds.{in_range, is_sound, may_follow, standing}
@@ -15,11 +12,10 @@ use Rattle.book.proofs.Standing.{follow_parts, standing_parts}
 
 -- ---- may_follow and standing, put together
 follow_from : (last next : ℕ) (x : Order) → last < x.number → x.number < next → in_range x ≡ true → may_follow last next x ≡ true
-follow_from last next x above below range =
-    and_from (ltb last x.number && ltb x.number next) (in_range x) (and_from (ltb last x.number) (ltb x.number next) (lt-ltb last x.number above) (lt-ltb x.number next below)) range
+follow_from last next x above below range = search rules
 
 follow_range : (last next : ℕ) (x : Order) → may_follow last next x ≡ true → in_range x ≡ true
-follow_range last next x h = (and_parts (ltb last x.number && ltb x.number next) (in_range x) h).1
+follow_range last next x h = search rules
 
 standing_nil : (last next : ℕ) → standing last next [] ≡ true
 unfolding standing
@@ -27,7 +23,7 @@ standing_nil last next = refl
 
 standing_cons : (last next : ℕ) (x : Order) (xs : List Order) → may_follow last next x ≡ true → standing x.number next xs ≡ true → standing last next (x ∷ xs) ≡ true
 unfolding standing
-standing_cons last next x xs h k = and_from (may_follow last next x) (standing x.number next xs) h k
+standing_cons last next x xs h k = search rules
 
 standing_lower : (low last next : ℕ) (xs : List Order) → low ≤ last → standing last next xs ≡ true → standing low next xs ≡ true
 standing_lower low last next [] le h = standing_nil low next
@@ -58,14 +54,10 @@ standing_push last next x (y ∷ ys) h lt number range =
 
 -- ---- sound lines
 sound_parts : (used next : ℕ) (lines : List Order) → is_sound used next lines ≡ true → (length lines ≤ 1024) × (used ≤ length lines) × (standing 0 next (take used lines) ≡ true)
-sound_parts used next lines h =
-    let a = and_parts (leb (length lines) 1024 && leb used (length lines)) (standing 0 next (take used lines)) h in
-    let b = and_parts (leb (length lines) 1024) (leb used (length lines)) a.0 in
-    (leb-true (length lines) 1024 b.0, leb-true used (length lines) b.1, a.1)
+sound_parts used next lines h = search rules
 
 sound_from : (used next : ℕ) (lines : List Order) → length lines ≤ 1024 → used ≤ length lines → standing 0 next (take used lines) ≡ true → is_sound used next lines ≡ true
-sound_from used next lines few fits h =
-    and_from (leb (length lines) 1024 && leb used (length lines)) (standing 0 next (take used lines)) (and_from (leb (length lines) 1024) (leb used (length lines)) (le-leb (length lines) 1024 few) (le-leb used (length lines) fits)) h
+sound_from used next lines few fits h = search rules
 
 -- an edit leaves as many places
 leaves_length : (used count : ℕ) (entry stay exit : List Order) → Leaves free used entry stay count exit → length exit ≡ length stay + (length (take used entry) - count) + length (drop used entry)
@@ -90,14 +82,7 @@ removal_sound p used next count entry exit sound h =
 
 less_range : (fills : List Fill) (x : Order) → in_range x ≡ true → is_unfilled (less_fills fills x) ≡ true → in_range (less_fills fills x) ≡ true
 unfolding in_range
-less_range fills x h some =
-    let front : Bool = within 1 65535 x.member && within 1 2 x.side && is_price x.limit && within 1 100000 x.entered in
-    let a = and_parts (front && within 1 x.entered x.left) (is_date x.last_day) h in
-    let b = and_parts front (within 1 x.entered x.left) a.0 in
-    let left = within_ends 1 x.entered x.left b.1 in
-    let rest : ℕ = x.left - gained x.number fills in
-    let low : 0 < rest = ltb-true 0 rest some in
-    and_from (front && within 1 x.entered rest) (is_date x.last_day) (and_from front (within 1 x.entered rest) b.0 (and_from (leb 1 rest) (leb rest x.entered) (le-leb 1 rest (omega arith)) (le-leb rest x.entered (omega (arith, left.1))))) a.1
+less_range fills x h some = search rules
 
 pub posting_sound : PostingSound
 posting_sound fills used next count entry exit sound h =

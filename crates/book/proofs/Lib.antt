@@ -1,13 +1,9 @@
-pub mod Standing
 pub mod Orderings
-pub mod Choosing
-pub mod Depths
 pub mod Rankings
+pub mod Standing
+pub mod Depths
 pub mod Filling
 pub mod Sides
 pub mod Fairness
-pub mod Recording
-pub mod Retaining
-pub mod Blanks
 pub mod Keeping
 pub mod Priority

@@ -1,17 +1,17 @@
 -- Priority by price and time is kept among all orders of a side. Assumes nothing.
 use Rattle.std.proofs.Common.{◌≡◌, ℕ, ◌<◌, true, false, List, ⊎_elim, arith, rules}
+use Rattle.std.specs.List.{Contains}
 use Rattle.std.proofs.lemmas.Bool.{cases_Bool}
 use Rattle.book.specs.Fills.{all_fills, gained}
 use Rattle.book.specs.Laws.{PriorityKept}
 use Rattle.book.specs.Orders.{accepts, told_apart}
 use Rattle.book.specs.PriceTimes.{ahead}
-use Rattle.book.specs.Ranked.{OneOf}
 use Rattle.book.specs.declared.order.Order.{Order}
 use Rattle.book.specs.declared.order.Side.{Side}
 use Rattle.book.specs.declared.order.Side.TheVariants.{Buy, Sell}
 use Rattle.book.proofs.Fairness.{fills_fair, gained_all}
 use Rattle.book.proofs.Orderings.{Ordering}
-use Rattle.book.proofs.Rankings.{one_kept}
+use Rattle.book.proofs.Rankings.{Contains-filter}
 use Rattle.book.proofs.Sides.{fills_held, held_lost}
 use Rattle.book.proofs.Standing.{Standing, book_stands}
 
@@ -23,11 +23,11 @@ better_accepts : (side : Side) (price : ℕ) (a b : Order) → ahead a b ≡ tru
 better_accepts Buy price a b h k = search rules
 better_accepts Sell price a b h k = search rules
 
-module _ (price trading : ℕ) (lines : List Order) (stand : Standing lines) (a b : Order) (ia : OneOf a lines) (ib : OneOf b lines) (front : ahead a b ≡ true) (gains : 0 < gained b.number (all_fills ahead price trading lines)) where
+module _ (price trading : ℕ) (lines : List Order) (stand : Standing lines) (a b : Order) (ia : Contains lines a) (ib : Contains lines b) (front : ahead a b ≡ true) (gains : 0 < gained b.number (all_fills ahead price trading lines)) where
   on_side_lem : (side : Side) → accepts side price b ≡ true → gained a.number (all_fills ahead price trading lines) ≡ a.left
   on_side_lem side h =
       (fills_fair price_time price trading lines stand).in_turn side a b
-      (one_kept (accepts side price) a lines (better_accepts side price a b front h) ia) (one_kept (accepts side price) b lines h ib) front gains
+      (Contains-filter (accepts side price) lines a (better_accepts side price a b front h) ia) (Contains-filter (accepts side price) lines b h ib) front gains
 
   filled_whole : gained a.number (all_fills ahead price trading lines) ≡ a.left
   filled_whole =

@@ -1,17 +1,18 @@
 -- What the two sides of a book have together. Assumes nothing.
-use Rattle.std.proofs.Common.{◌≡◌, ℕ, suc, ◌+◌, ◌-◌, ◌≤◌, min, Bool, true, false, cond, eqb, List, [], ◌∷◌, length, sum_by, filter, sym, refl, ap, ◌∙◌, subst, inl, inr, ⊎_elim, arith}
-use Rattle.std.specs.List.{AllByRecursion}
-use Rattle.std.proofs.ByRecursion.{all_kept_by, All-weaker}
+use Rattle.std.proofs.Common.{◌≡◌, ℕ, zero, suc, ◌+◌, ◌-◌, ◌≤◌, min, Bool, true, false, cond, eqb, List, [], ◌∷◌, length, sum_by, filter, refl, ap, ◌∙◌, subst, ⊎_elim, arith, rules}
+use Rattle.std.specs.List.{All, Contains}
+use Rattle.std.proofs.lemmas.List.Elements.{All-contains, All-filter, All-head, All-tail, All-weaker}
+use Rattle.std.proofs.lemmas.List.Sorted.{length_permutation, sum_by-IsPermutation}
 use Rattle.std.proofs.lemmas.List.Sums.{sum_by-cons}
-use Rattle.std.proofs.lemmas.Bool.{and_parts, both_ways, cases_Bool, cond_both, eq-eqb, eqb-true, ne_eqb, not-true}
+use Rattle.std.proofs.lemmas.Bool.{cases_Bool, cond_both, eq-eqb, not-true}
 use Rattle.book.specs.Fills.{accepting, dealt, fills_of, gained, other_number}
-use Rattle.book.specs.Orders.{accepts, on_side, within_limit}
-use Rattle.book.specs.Ranked.{ranked, Apart, OneOf}
+use Rattle.book.specs.Orders.{accepts}
+use Rattle.book.specs.Ranked.{ranked}
 use Rattle.book.specs.declared.fill.Fill.{Fill}
 use Rattle.book.specs.declared.order.Order.{Order}
 use Rattle.book.specs.declared.order.Side.{Side}
 use Rattle.book.specs.declared.order.Side.TheVariants.{Buy, Sell}
-use Rattle.book.proofs.Rankings.{all_one, length-ranked, sum_by-ranked}
+use Rattle.book.proofs.Rankings.{apart_head, apart_tail, IsPermutation-ranked, Apart}
 
 -- ---- two filters of which no item passes both
 module _ {X : Type 0} (p q : X → Bool) (apart : (x : X) → p x ≡ true → q x ≡ true → ⊥) (f : X → ℕ) where
@@ -37,8 +38,7 @@ length_sum {X} (x ∷ xs) = omega (arith, sum_by-cons (λ (_ : X). 1) x xs, leng
 
 -- no order buys and sells
 one_side : (price : ℕ) (x : Order) → accepts Buy price x ≡ true → accepts Sell price x ≡ true → ⊥
-one_side price x b s =
-    omega (arith, eqb-true x.side 1 (and_parts (on_side Buy x) (within_limit Buy x.limit price) b).0, eqb-true x.side 2 (and_parts (on_side Sell x) (within_limit Sell x.limit price) s).0)
+one_side price x b s = search rules
 
 pub accepting_length : (price : ℕ) (lines : List Order) → length (accepting Buy price lines) + length (accepting Sell price lines) ≤ length lines
 accepting_length price lines =
@@ -50,7 +50,9 @@ dealt_length n (x ∷ xs) =
     cond_both (eqb n 0) [] (record { number = x.number; shares = min n x.left } ∷ dealt (n - x.left) xs) (λ fs. length fs ≤ suc (length xs)) (λ _. omega arith) (λ _. omega (arith, dealt_length (n - x.left) xs))
 
 pub fills_length : (before : Order → Order → Bool) (side : Side) (price trading : ℕ) (lines : List Order) → length (fills_of before side price trading lines) ≤ length (accepting side price lines)
-fills_length before side price trading lines = omega (arith, dealt_length trading (ranked before (accepting side price lines)), length-ranked before (accepting side price lines))
+fills_length before side price trading lines =
+    let all : List Order = accepting side price lines in
+    omega (arith, dealt_length trading (ranked before all), length_permutation _ _ (IsPermutation-ranked before all))
 
 -- ---- the shares left of the orders of a number
 abbrev pub held : ℕ → List Order → ℕ
@@ -60,34 +62,38 @@ held_cons : (k : ℕ) (x : Order) (xs : List Order) → held k (x ∷ xs) ≡ co
 held_cons k x xs = sum_by-cons (λ (y : Order). cond (eqb y.number k) y.left 0) x xs
 
 -- an order's number is its own
-held_none : (k : ℕ) (xs : List Order) → AllByRecursion (λ x. eqb x.number k ≡ false) xs → held k xs ≡ 0
+held_none : (k : ℕ) (xs : List Order) → All (λ x. eqb x.number k ≡ false) xs → held k xs ≡ 0
 held_none k [] h = refl
-held_none k (x ∷ xs) h = held_cons k x xs ∙ rw h.0 (omega (arith, held_none k xs h.1))
+held_none k (x ∷ xs) h =
+    let Other : Order → Type 0 = λ y. eqb y.number k ≡ false in
+    held_cons k x xs ∙ rw (All-head Other x xs h) (omega (arith, held_none k xs (All-tail Other x xs h)))
 
 other_back : (x y : Order) → other_number x y ≡ true → eqb y.number x.number ≡ false
-other_back x y h = ne_eqb y.number x.number (λ e. both_ways (eqb x.number y.number) (not-true (eqb x.number y.number) h) (eq-eqb x.number y.number (sym e)))
+other_back x y h = search rules
 
-held_here : (x : Order) (xs : List Order) → AllByRecursion (λ y. other_number x y ≡ true) xs → held x.number (x ∷ xs) ≡ x.left
+held_here : (x : Order) (xs : List Order) → All (λ y. other_number x y ≡ true) xs → held x.number (x ∷ xs) ≡ x.left
 held_here x xs told =
     held_cons x.number x xs
     ∙ rw (eq-eqb x.number x.number refl) (omega (arith, held_none x.number xs (All-weaker (λ y. other_number x y ≡ true) (λ y. eqb y.number x.number ≡ false) (other_back x) xs told)))
 
-pub held_own : (x : Order) (lines : List Order) → Apart other_number lines → OneOf x lines → held x.number lines ≡ x.left
-held_own x [] told i = absurd i
-held_own x (y ∷ ys) told (inl e) = subst (λ (v : Order). held v.number (y ∷ ys) ≡ v.left) e (held_here y ys told.0)
-held_own x (y ∷ ys) told (inr i) =
+pub held_own : (x : Order) (lines : List Order) → Apart other_number lines → Contains lines x → held x.number lines ≡ x.left
+held_own x [] told i = absurd (omega (arith, i.1))
+held_own x (y ∷ ys) told (zero, lt, e) = subst (λ (v : Order). held v.number (y ∷ ys) ≡ v.left) e (held_here y ys (apart_head other_number y ys told))
+held_own x (y ∷ ys) told (suc k, lt, e) =
+    let i : Contains ys x = (k, omega arith, e) in
     held_cons x.number y ys
-    ∙ rw (not-true (eqb y.number x.number) (all_one (λ z. other_number y z ≡ true) x ys told.0 i)) (omega (arith, held_own x ys told.1 i))
+    ∙ rw (not-true (eqb y.number x.number) (All-contains (λ z. other_number y z ≡ true) ys x (apart_head other_number y ys told) i)) (omega (arith, held_own x ys (apart_tail other_number y ys told) i))
 
 -- and where a filter takes the order out, none is left of its number
-pub held_lost : (p : Order → Bool) (x : Order) (lines : List Order) → Apart other_number lines → OneOf x lines → p x ≡ false → held x.number (filter p lines) ≡ 0
-held_lost p x [] told i off = absurd i
-held_lost p x (y ∷ ys) told (inl e) off =
-    let gone : AllByRecursion (λ (z : Order). eqb z.number x.number ≡ false) ys = subst (λ (v : Order). AllByRecursion (λ (z : Order). eqb z.number v.number ≡ false) ys) e (All-weaker (λ z. other_number y z ≡ true) (λ z. eqb z.number y.number ≡ false) (other_back y) ys told.0) in
-    rw (ap p e ∙ off) (held_none x.number (filter p ys) (all_kept_by p (λ z. eqb z.number x.number ≡ false) ys gone))
-held_lost p x (y ∷ ys) told (inr i) off =
-    let rest = held_lost p x ys told.1 i off in
-    let other = not-true (eqb y.number x.number) (all_one (λ z. other_number y z ≡ true) x ys told.0 i) in
+pub held_lost : (p : Order → Bool) (x : Order) (lines : List Order) → Apart other_number lines → Contains lines x → p x ≡ false → held x.number (filter p lines) ≡ 0
+held_lost p x [] told i off = absurd (omega (arith, i.1))
+held_lost p x (y ∷ ys) told (zero, lt, e) off =
+    let gone : All (λ (z : Order). eqb z.number x.number ≡ false) ys = subst (λ (v : Order). All (λ (z : Order). eqb z.number v.number ≡ false) ys) e (All-weaker (λ z. other_number y z ≡ true) (λ z. eqb z.number y.number ≡ false) (other_back y) ys (apart_head other_number y ys told)) in
+    rw (ap p e ∙ off) (held_none x.number (filter p ys) (All-filter p (λ z. eqb z.number x.number ≡ false) ys gone))
+held_lost p x (y ∷ ys) told (suc k, lt, e) off =
+    let i : Contains ys x = (k, omega arith, e) in
+    let rest = held_lost p x ys (apart_tail other_number y ys told) i off in
+    let other = not-true (eqb y.number x.number) (All-contains (λ z. other_number y z ≡ true) ys x (apart_head other_number y ys told) i) in
     cond_both (p y) (y ∷ filter p ys) (filter p ys) (λ zs. held x.number zs ≡ 0) (λ _. held_cons x.number y (filter p ys) ∙ rw other (omega arith)) (λ _. rest)
 
 pub held_both : (k price : ℕ) (lines : List Order) → held k (accepting Buy price lines) + held k (accepting Sell price lines) ≤ held k lines
@@ -106,4 +112,5 @@ dealt_held k n (x ∷ xs) =
 
 pub fills_held : (before : Order → Order → Bool) (side : Side) (price trading k : ℕ) (lines : List Order) → gained k (fills_of before side price trading lines) ≤ held k (accepting side price lines)
 fills_held before side price trading k lines =
-    omega (arith, dealt_held k trading (ranked before (accepting side price lines)), sum_by-ranked before (λ (x : Order). cond (eqb x.number k) x.left 0) (accepting side price lines))
+    let all : List Order = accepting side price lines in
+    omega (arith, dealt_held k trading (ranked before all), sum_by-IsPermutation (λ (x : Order). cond (eqb x.number k) x.left 0) _ _ (IsPermutation-ranked before all))

@@ -1,16 +1,15 @@
 -- What is known of lines that stand in a book. Assumes nothing.
-use Rattle.std.proofs.Common.{◌≡◌, ℕ, ◌+◌, ◌<◌, ◌≤◌, true, false, not, ◌&&◌, ltb, leb, List, [], ◌∷◌, length, get_or, drop, ap, ◌∙◌, arith}
-use Rattle.std.specs.List.{AllByRecursion}
-use Rattle.std.proofs.ByRecursion.{All-weaker}
+use Rattle.std.proofs.Common.{◌≡◌, ℕ, ◌+◌, ◌<◌, ◌≤◌, true, false, not, ◌&&◌, leb, List, [], ◌∷◌, length, get_or, drop, ap, ◌∙◌, arith, rules}
+use Rattle.std.specs.List.{All}
 use Rattle.std.proofs.lemmas.List.{at_drop_more, at_drop_all}
-use Rattle.std.proofs.lemmas.Bool.{and_parts, le-leb, leb-true, ltb-true, ne_eqb}
-use Rattle.terms.specs.Prices.{within, within_ends, is_price}
-use Rattle.terms.specs.Dates.{is_date}
+use Rattle.std.proofs.lemmas.List.Elements.{All-nil, All-cons, All-weaker}
+use Rattle.std.proofs.lemmas.List.Kept.{AllPairs-cons}
+use Rattle.std.proofs.lemmas.Bool.{and_parts, leb-true, ne_eqb}
 use Rattle.book.specs.Orders.{free}
 use Rattle.book.specs.Fills.{other_number}
-use Rattle.book.specs.Ranked.{Apart}
 use Rattle.book.specs.Sounds.{in_range, may_follow, standing, is_book}
 use Rattle.book.specs.declared.order.Order.{Order}
+use Rattle.book.proofs.Rankings.{apart_none, Apart}
 
 -- ---- the loop over the lines
 module _ (last next : ℕ) (lines : List Order) (i : ℕ) where
@@ -36,49 +35,39 @@ pub record Line (x : Order) : Type 0 where
 
 range_line : (x : Order) → in_range x ≡ true → Line x
 unfolding in_range
-range_line x h =
-    let a = (and_parts (within 1 65535 x.member && within 1 2 x.side && is_price x.limit && within 1 100000 x.entered && within 1 x.entered x.left) (is_date x.last_day) h).0 in
-    let b = and_parts (within 1 65535 x.member && within 1 2 x.side && is_price x.limit && within 1 100000 x.entered) (within 1 x.entered x.left) a in
-    let d = and_parts (within 1 65535 x.member && within 1 2 x.side && is_price x.limit) (within 1 100000 x.entered) b.0 in
-    let e = and_parts (within 1 65535 x.member && within 1 2 x.side) (is_price x.limit) d.0 in
-    let left = within_ends 1 x.entered x.left b.1 in
-    let entered = within_ends 1 100000 x.entered d.1 in
-    let limit = within_ends 1 1000000000 x.limit e.1 in
-    record { some = left.0; small = omega (arith, left.1, entered.1); priced = limit.1 }
+range_line x h = record { some = search rules; small = search rules; priced = search rules }
 
 pub follow_parts : (last next : ℕ) (x : Order) → may_follow last next x ≡ true → (last < x.number) × (x.number < next) × Line x
-follow_parts last next x h =
-    let a = and_parts (ltb last x.number && ltb x.number next) (in_range x) h in
-    let b = and_parts (ltb last x.number) (ltb x.number next) a.0 in
-    (ltb-true last x.number b.0, ltb-true x.number next b.1, range_line x a.1)
+follow_parts last next x h = (search rules, search rules, range_line x (search rules))
 
 pub record Standing (lines : List Order) : Type 0 where
   pub few : length lines ≤ 1024
-  pub each : AllByRecursion Line lines
+  pub each : All Line lines
   pub apart : Apart other_number lines
 
 pub standing_parts : (last next : ℕ) (x : Order) (xs : List Order) → standing last next (x ∷ xs) ≡ true → (may_follow last next x ≡ true) × (standing x.number next xs ≡ true)
 unfolding standing
-standing_parts last next x xs h = and_parts (may_follow last next x) (standing x.number next xs) h
+standing_parts last next x xs h = search rules
 
-above_last : (last next : ℕ) (lines : List Order) → standing last next lines ≡ true → AllByRecursion (λ y. last < y.number) lines
-above_last last next [] h = tt
+above_last : (last next : ℕ) (lines : List Order) → standing last next lines ≡ true → All (λ y. last < y.number) lines
+above_last last next [] h = All-nil (λ y. last < y.number)
 above_last last next (x ∷ xs) h =
     let parts = standing_parts last next x xs h in
     let up = (follow_parts last next x parts.0).0 in
-    (up, All-weaker (λ y. x.number < y.number) (λ y. last < y.number) (λ y k. omega arith) xs (above_last x.number next xs parts.1))
+    All-cons (λ y. last < y.number) x xs up (All-weaker (λ y. x.number < y.number) (λ y. last < y.number) (λ y k. omega arith) xs (above_last x.number next xs parts.1))
 
-each_line : (last next : ℕ) (lines : List Order) → standing last next lines ≡ true → AllByRecursion Line lines
-each_line last next [] h = tt
+each_line : (last next : ℕ) (lines : List Order) → standing last next lines ≡ true → All Line lines
+each_line last next [] h = All-nil Line
 each_line last next (x ∷ xs) h =
     let parts = standing_parts last next x xs h in
-    ((follow_parts last next x parts.0).2, each_line x.number next xs parts.1)
+    All-cons Line x xs (follow_parts last next x parts.0).2 (each_line x.number next xs parts.1)
 
 all_apart : (last next : ℕ) (lines : List Order) → standing last next lines ≡ true → Apart other_number lines
-all_apart last next [] h = tt
+all_apart last next [] h = apart_none other_number
 all_apart last next (x ∷ xs) h =
     let parts = standing_parts last next x xs h in
-    (All-weaker (λ y. x.number < y.number) (λ y. other_number x y ≡ true) (λ y k. ap not (ne_eqb x.number y.number (λ e. omega arith))) xs (above_last x.number next xs parts.1), all_apart x.number next xs parts.1)
+    let others = All-weaker (λ y. x.number < y.number) (λ y. other_number x y ≡ true) (λ y k. ap not (ne_eqb x.number y.number (λ e. omega arith))) xs (above_last x.number next xs parts.1) in
+    AllPairs-cons (λ v w. other_number v w ≡ true) x xs others (all_apart x.number next xs parts.1)
 
 pub book_stands : (next : ℕ) (lines : List Order) → is_book next lines ≡ true → Standing lines
 unfolding is_book
@@ -88,4 +77,4 @@ book_stands next lines h =
 
 pub book_is : (next : ℕ) (lines : List Order) → length lines ≤ 1024 → standing 0 next lines ≡ is_book next lines
 unfolding is_book
-book_is next lines few = rw (le-leb (length lines) 1024 few)
+book_is next lines few = search rules

@@ -1,10 +1,10 @@
 -- Fills: how the trading shares are dealt out. Assumes nothing.
 use Rattle.std.specs.Prelude.{◌≡◌, ℕ, ◌-◌, ◌<◌, ◌≤◌, min, Bool, true, cond, not, ◌&&◌, List, [], ◌∷◌, ◌++◌, drop, Some, None, Ok, Err, sum_by, filter, Option, Result, ◌==◌}
-use Rattle.std.specs.List.{AllByRecursion}
+use Rattle.std.specs.List.{All, Contains}
 use Rattle.terms.specs.declared.refusal.Refusal.{Refusal}
 use Rattle.book.specs.Depths.{trading as trading_at}
 use Rattle.book.specs.Orders.{accepts}
-use Rattle.book.specs.Ranked.{ranked, OneOf}
+use Rattle.book.specs.Ranked.{ranked}
 use Rattle.book.specs.declared.fill.Fill.{Fill}
 use Rattle.book.specs.declared.order.Order.{Order}
 use Rattle.book.specs.declared.order.Side.{Side}
@@ -44,11 +44,11 @@ pub record Fair (before : Order → Order → Bool) (price trading : ℕ) (lines
   -- where as many shares trade at the price, each side is filled by exactly these
   pub exact : trading ≤ trading_at lines price → (side : Side) → shares_in (fills_of before side price trading lines) ≡ trading
   -- nobody behind an order gains unless the order is filled whole
-  pub in_turn : (side : Side) (a b : Order) → OneOf a (accepting side price lines) → OneOf b (accepting side price lines) → before a b ≡ true → 0 < gained b.number (all_fills before price trading lines) → gained a.number (all_fills before price trading lines) ≡ a.left
+  pub in_turn : (side : Side) (a b : Order) → Contains (accepting side price lines) a → Contains (accepting side price lines) b → before a b ≡ true → 0 < gained b.number (all_fills before price trading lines) → gained a.number (all_fills before price trading lines) ≡ a.left
   -- no order gains more than it has left
-  pub most : (x : Order) → OneOf x lines → gained x.number (all_fills before price trading lines) ≤ x.left
+  pub most : (x : Order) → Contains lines x → gained x.number (all_fills before price trading lines) ≤ x.left
   -- only orders that gain a share have a record
-  pub some : AllByRecursion (λ f. 0 < f.shares) (all_fills before price trading lines)
+  pub some : All (λ f. 0 < f.shares) (all_fills before price trading lines)
 
 -- ---- for the code
 -- orders of different numbers

@@ -1,10 +1,10 @@
 -- What the definitions amount to. Assumes nothing.
 use Rattle.std.specs.Prelude.{◌≡◌, ℕ, ◌+◌, ◌<◌, Bool, true, List, length, take, Ok, filter}
+use Rattle.std.specs.List.{Contains}
 use Rattle.book.specs.Edits.{Entered, Leaves, posted}
 use Rattle.book.specs.Fills.{all_fills, gained}
 use Rattle.book.specs.Orders.{free}
 use Rattle.book.specs.PriceTimes.{ahead}
-use Rattle.book.specs.Ranked.{OneOf}
 use Rattle.book.specs.Sounds.{in_range, is_book, is_sound}
 use Rattle.book.specs.declared.fill.Fill.{Fill}
 use Rattle.book.specs.declared.order.Order.{Order}
@@ -23,4 +23,4 @@ EntrySound = (order : Order) (used next : ℕ) (entry exit : List Order) → is_
 
 -- by price and time, whatever an order accepts: if one behind it gains a share, it is filled whole
 abbrev pub PriorityKept : Type 0
-PriorityKept = (next price trading : ℕ) (lines : List Order) → is_book next lines ≡ true → (a b : Order) → OneOf a lines → OneOf b lines → ahead a b ≡ true → 0 < gained b.number (all_fills ahead price trading lines) → gained a.number (all_fills ahead price trading lines) ≡ a.left
+PriorityKept = (next price trading : ℕ) (lines : List Order) → is_book next lines ≡ true → (a b : Order) → Contains lines a → Contains lines b → ahead a b ≡ true → 0 < gained b.number (all_fills ahead price trading lines) → gained a.number (all_fills ahead price trading lines) ≡ a.left

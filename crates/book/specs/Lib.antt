@@ -6,4 +6,5 @@ pub mod PriceTimes
 pub mod Ranked
 pub mod Fills
 pub mod Edits
+pub mod LineEdits
 pub mod Laws

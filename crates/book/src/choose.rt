@@ -1,18 +1,15 @@
-ghost use Rattle.std.specs.Prelude.{◌≡◌, Bool, true, false, not, length};
-ghost use Rattle.book.specs.Merits.{Chosen};
+ghost use Rattle.std.specs.Prelude.{◌≡◌, ◌<◌, Bool, true, false, not, length};
+ghost use Rattle.std.specs.Option.{IfSome};
+ghost use Rattle.book.specs.Merits.{Chosen, Tests, both_apart};
 
 /// Items of which some two are told apart, as orders of one side by their numbers.
 pub trait Distinct {
     ghost apart: { Self → Self → Bool };
 }
 
-/// A test that an item passes or fails.
-pub trait Test<T> {
-    ghost passed: { Self → T → Bool };
-
-    /// Whether the item passes.
-    fn passes(&self, item: &T) -> bool
-        ensures { result ≡ passed self.now item.now };
+/// An item that may be missing: one that is missing is told apart from nothing.
+impl<T: Distinct> Distinct for Option<T> {
+    ghost apart = { both_apart T.Distinct.apart };
 }
 
 /// A merit: of two items, which one comes first.
@@ -33,21 +30,22 @@ pub trait Merit<T: Distinct> {
     ghost carries: { (m : Self) (x y z : T) → before m x y ≡ true → before m y z ≡ true → before m x z ≡ true };
 }
 
-/// The place of the first by merit among the items that pass the test: no other that passes comes before it.
-pub fn first_by_merit<T: Distinct, M: Merit<T>, E: Test<T>>(
+/// The place of the first by merit among the eligible items: no other eligible one comes before it.
+pub fn first_by_merit<T: Distinct, M: Merit<T>, E: Fn(&T) -> bool>(
     items: &[T],
     merit: &M,
-    eligible: &E,
+    eligible: E,
 ) -> Option<usize>
-    ensures { Chosen (E.Test.passed eligible.now) (M.Merit.before merit.now) items.now (length items.now) result }
+    requires { E.IsAlwaysCallable eligible }
+    ensures within { IfSome result (λ i. i < length items.now) }
+    ensures first { (test : T → Bool) → Tests E.Fn test eligible → Chosen test (M.Merit.before merit.now) items.now (length items.now) result }
 {
+    // With its place, by which the contract and the callers name the item.
     let mut first = None;
     for (i, item) in items.iter().enumerate() {
-        let leads = match first {
-            Some(best) => merit.comes_before(item, &items[best]),
-            None => true,
-        };
-        if leads && eligible.passes(item) {
+        if first.is_none_or(|best: usize| merit.comes_before(item, &items[best]))
+            && eligible(item)
+        {
             first = Some(i);
         }
     }

@@ -1,10 +1,9 @@
-ghost use Rattle.std.specs.Prelude.{◌≡◌, ◌≤◌, ◌++◌, length, drop, nat_le};
+ghost use Rattle.std.specs.Prelude.{◌≡◌, ◌≤◌, ◌++◌, min, length, drop, nat_le};
 ghost use Rattle.terms.specs.Refusals.{Passed};
 ghost use Rattle.terms.specs.declared.refusal.Refusal.TheVariants.{TooFewRecords};
-ghost use Rattle.book.specs.Fills.{accepting, all_fills, fills_of, other_number, Fair, recorded, waits};
-ghost use Rattle.book.specs.Ranked.{Apart};
+ghost use Rattle.book.specs.Fills.{accepting, all_fills, fills_of, Fair, recorded, waits};
 
-use super::choose::{Merit, Test, first_by_merit};
+use super::choose::{Merit, first_by_merit};
 use super::order::{Order, Side};
 use super::sound::Book;
 use terms::Refusal;
@@ -18,96 +17,83 @@ pub struct Fill {
     pub shares: u32,
 }
 
-// The orders of a side that accept a price and come after the last one served, if one was.
-#[derive(Drop)]
-struct Waiting<'a, M> {
-    merit: &'a M,
-    side: Side,
-    price: u32,
-    last: Option<Order>,
-}
-
-impl<'a, M: Merit<Order>> Test<Order> for Waiting<'a, M> {
-    ghost passed = { λ w. waits (M.Merit.before w.merit.now) w.side w.price w.last };
-
-    fn passes(&self, item: &Order) -> bool {
-        let behind = match self.last {
-            Some(last) => self.merit.comes_before(&last, item),
-            None => true,
-        };
-        behind && item.accepts(self.side, self.price)
+impl Order {
+    // The shares that it gets where so many are left to deal.
+    fn gets(&self, rest: u32) -> u32
+        ensures { result ≡ min rest self.now.left }
+    {
+        rest.min(self.left)
     }
 }
 
-// Deals `trading` shares to the orders of a side that accept `price`, in merit, and says how many records that takes.
-fn fill_side<M: Merit<Order>>(
-    lines: &[Order],
-    merit: &M,
-    side: Side,
+// A price at which the orders of a book are to trade so many shares, dealt out in merit.
+#[derive(Drop)]
+struct Deal<'a, M> {
+    book: Book<'a>,
+    merit: &'a M,
     price: u32,
     trading: u32,
-    fills: &mut [Fill],
-) -> usize
-    requires apart { Apart other_number lines.now }
-    requires room { length (accepting side price lines.now) ≤ length fills.old }
-    ensures within { result ≤ length fills.old }
-    ensures count { result ≡ length (fills_of (M.Merit.before merit.now) side price trading lines.now) }
-    ensures written { fills.new ≡ fills_of (M.Merit.before merit.now) side price trading lines.now ++ drop result fills.old }
-{
-    let mut rest = trading;
-    let mut last = None;
-    let mut count = 0;
-    while rest > 0 {
-        let waiting = Waiting {
-            merit,
-            side,
-            price,
-            last,
-        };
-        let Some(next) = first_by_merit(lines, merit, &waiting) else {
-            break;
-        };
-        let line = lines[next];
-        let shares = rest.min(line.left);
-        fills[count] = Fill {
-            number: line.number,
-            shares,
-        };
-        count += 1;
-        rest -= shares;
-        last = Some(line);
+}
+
+impl<'a, M: Merit<Order>> Deal<'a, M> {
+    // Whether an order of a side accepts the price and comes after the last one served, if one was.
+    fn waits(&self, side: Side, last: Option<Order>, order: &Order) -> bool
+        ensures { result ≡ waits (M.Merit.before self.now.merit.now) side self.now.price last order.now }
+    {
+        last.is_none_or(|served| self.merit.comes_before(&served, order))
+            && order.accepts(side, self.price)
     }
-    count
+
+    // Fills a side, and says how many records that takes.
+    fn fill_side(&self, side: Side, fills: &mut [Fill]) -> usize
+        requires { length (accepting side self.now.price self.now.book.lines.now) ≤ length fills.old }
+        ensures within { result ≤ length fills.old }
+        ensures count { result ≡ length (fills_of (M.Merit.before self.now.merit.now) side self.now.price self.now.trading self.now.book.lines.now) }
+        ensures written { fills.new ≡ fills_of (M.Merit.before self.now.merit.now) side self.now.price self.now.trading self.now.book.lines.now ++ drop result fills.old }
+    {
+        let lines = self.book.lines;
+        let mut rest = self.trading;
+        let mut last = None;
+        // With its place, which is how many records there are before it.
+        for (count, record) in fills.iter_mut().enumerate() {
+            if rest == 0 {
+                return count;
+            }
+            let waits = |order: &Order| self.waits(side, last, order);
+            let Some(next) = first_by_merit(lines, self.merit, waits) else {
+                return count;
+            };
+            let line = lines[next];
+            let shares = line.gets(rest);
+            *record = Fill {
+                number: line.number,
+                shares,
+            };
+            rest -= shares;
+            last = Some(line);
+        }
+        fills.len()
+    }
+
+    // Fills the buys and then the sells.
+    #[tactic(auto, using(crate::proofs::Sides::accepting_length, crate::proofs::Sides::fills_length))]
+    fn fill_both(&self, fills: &mut [Fill]) -> usize
+        requires { length self.now.book.lines.now ≤ length fills.old }
+        ensures count { result ≡ length (all_fills (M.Merit.before self.now.merit.now) self.now.price self.now.trading self.now.book.lines.now) }
+        ensures written { fills.new ≡ all_fills (M.Merit.before self.now.merit.now) self.now.price self.now.trading self.now.book.lines.now ++ drop result fills.old }
+        ensures fair { Fair (M.Merit.before self.now.merit.now) self.now.price self.now.trading self.now.book.lines.now }
+    {
+        let bought = self.fill_side(Side::Buy, fills);
+        let sold = self.fill_side(Side::Sell, &mut fills[bought..]);
+        bought + sold
+    }
 }
 
 impl Book<'_> {
-    // Fills the buys and then the sells.
-    fn fill_both<M: Merit<Order>>(
-        &self,
-        merit: &M,
-        price: u32,
-        trading: u32,
-        fills: &mut [Fill],
-    ) -> usize
-        requires { length self.now.lines.now ≤ length fills.old }
-        ensures count { result ≡ length (all_fills (M.Merit.before merit.now) price trading self.now.lines.now) }
-        ensures written { fills.new ≡ all_fills (M.Merit.before merit.now) price trading self.now.lines.now ++ drop result fills.old }
-        ensures fair { Fair (M.Merit.before merit.now) price trading self.now.lines.now }
-    {
-        let bought = fill_side(self.lines, merit, Side::Buy, price, trading, fills);
-        let sold = fill_side(
-            self.lines,
-            merit,
-            Side::Sell,
-            price,
-            trading,
-            &mut fills[bought..],
-        );
-        bought + sold
-    }
-
     /// Fills both sides at `price` with `trading` shares, each in merit, and says how many records that takes:
     /// those of the buys, then those of the sells. Refuses fewer records than there are lines.
+    // The records' memory is the caller's, so their number comes back by itself, as from a reader.
+    // Price and shares are apart, and no `Trade`: that has a price, and here any number may come.
     pub fn fill<M: Merit<Order>>(
         &self,
         merit: &M,
@@ -121,6 +107,12 @@ impl Book<'_> {
         if fills.len() < self.lines.len() {
             return Err(Refusal::TooFewRecords);
         }
-        Ok(self.fill_both(merit, price, trading, fills))
+        let deal = Deal {
+            book: *self,
+            merit,
+            price,
+            trading,
+        };
+        Ok(deal.fill_both(fills))
     }
 }

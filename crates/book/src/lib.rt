@@ -10,10 +10,10 @@ mod merit;
 mod order;
 mod sound;
 
-pub use choose::{Distinct, Merit, Test, first_by_merit};
+pub use choose::{Distinct, Merit, first_by_merit};
 pub use fill::Fill;
 pub use laws::book_laws;
-pub use lines::{append, lapse_before, lapse_on, remove, settle};
+pub use lines::Lines;
 pub use merit::PriceTime;
 pub use order::{Order, Side};
-pub use sound::{Book, MAX_LINES, check_lines};
+pub use sound::{Book, MAX_LINES};

@@ -1,24 +1,43 @@
-ghost use Rattle.std.specs.Prelude.{◌≡◌, ◌+◌, ◌-◌, ◌<◌, ◌≤◌, not, [], ◌∷◌, ◌++◌, map, length, take, drop, replicate, filter, nat_lt, slice_set};
+ghost use Rattle.std.specs.Prelude.{◌≡◌, Bool, ◌+◌, ◌-◌, ◌<◌, ◌≤◌, map, length, take, drop, filter, nat_lt, slice_set};
 ghost use Rattle.terms.specs.Refusals.{Passed};
 ghost use Rattle.terms.specs.declared.refusal.Refusal.TheVariants.{NoFreeLine};
-ghost use Rattle.book.specs.Edits.{Leaves, Entered, lapsed, lasts_to, ends_on, ended, other_than, without, is_unfilled, posted, less_fills};
+ghost use Rattle.book.specs.Edits.{Leaves, lapsed, lasts_to, ended, ends_on, without, other_than, posted, is_unfilled, less_fills};
 ghost use Rattle.book.specs.Fills.{gained};
+ghost use Rattle.book.specs.LineEdits.{Appended, in_use, Left};
+ghost use Rattle.book.specs.Merits.{Tests};
 ghost use Rattle.book.specs.Orders.{free};
 
-use super::choose::Test;
 use super::fill::Fill;
 use super::order::Order;
 use terms::{Date, Refusal};
 
-// Writes `blank` into the places from `from` up to `to`, as far as there are any.
-fn clear<T: Copy>(items: &mut [T], from: usize, to: usize, blank: T)
-    requires { (from ≤ to) × (from ≤ length items.old) }
-    ensures front { take from items.new ≡ take from items.old }
-    ensures back { drop from items.new ≡ replicate (length (take to items.old) - from) blank ++ drop to items.old }
-{
-    let end = to.min(items.len());
-    for i in from..end {
-        items[i] = blank;
+impl Order {
+    // Whether it still stands on a day.
+    fn lasts_to(&self, day: u32) -> bool
+        ensures { result ≡ lasts_to day self.now }
+    {
+        self.last_day >= day
+    }
+
+    // Whether a day is its last.
+    fn ends_on(&self, day: u32) -> bool
+        ensures { result ≡ ends_on day self.now }
+    {
+        self.last_day == day
+    }
+
+    // Whether it has another number.
+    fn is_other_than(&self, number: u32) -> bool
+        ensures { result ≡ other_than number self.now }
+    {
+        self.number != number
+    }
+
+    // Whether it has shares left.
+    fn is_unfilled(&self) -> bool
+        ensures { result ≡ is_unfilled self.now }
+    {
+        self.left > 0
     }
 }
 
@@ -32,119 +51,36 @@ fn keep<T: Copy>(items: &mut [T], place: usize, item: T) -> usize
     place + 1
 }
 
-// Moves those of the first `used` items that pass the test to the front, in their order, and says how many there are.
-fn compact<T: Copy, P: Test<T>>(items: &mut [T], used: usize, test: &P) -> usize
-    ensures count { result ≡ length (filter (P.Test.passed test.now) (take used items.old)) }
-    ensures within { (result ≤ used) × (result ≤ length items.old) }
-    ensures front { take result items.new ≡ filter (P.Test.passed test.now) (take used items.old) }
-    ensures back { drop used items.new ≡ drop used items.old }
-    ensures long { length (take used items.new) ≡ length (take used items.old) }
+// Moves the items that pass the test to the front, in their order, and says how many there are.
+// What is asked of the test, and that it makes one, stands at each function that hands it on: a closure has no other place for it.
+fn compact<T: Copy, P: Fn(&T) -> bool>(items: &mut [T], test: P) -> usize
+    requires { P.IsAlwaysCallable test }
+    ensures within { result ≤ length items.old }
+    ensures long { length items.new ≡ length items.old }
+    ensures front { (passed : T → Bool) → Tests P.Fn passed test → take result items.new ≡ filter passed items.old }
 {
-    let end = used.min(items.len());
     let mut count = 0;
-    for i in 0..end {
+    // An index, since the loop writes to the slice that it reads.
+    for i in 0..items.len() {
         let item = items[i];
-        if test.passes(&item) {
+        if test(&item) {
             count = keep(items, count, item);
         }
     }
     count
 }
 
-// Keeps of the first `used` items those that pass the test, in their order, and says how many there are.
-// The others close up, and the places freed become blank.
-fn retain<T: Copy, P: Test<T>>(items: &mut [T], used: usize, test: &P, blank: T) -> usize
-    ensures { Leaves blank used items.old (filter (P.Test.passed test.now) (take used items.old)) result items.new }
+// Keeps of the first `used` lines those that pass the test, in their order, and says how many there are.
+// The others close up, and the lines freed become blank.
+// Not a method: a proof does not see what a part of the slice in a field holds once it is given back.
+fn retain<P: Fn(&Order) -> bool>(lines: &mut [Order], used: usize, test: P) -> usize
+    requires { P.IsAlwaysCallable test }
+    ensures { (passed : Order → Bool) → Tests P.Fn passed test → Leaves free used lines.old (filter passed (take used lines.old)) result lines.new }
 {
-    let count = compact(items, used, test);
-    clear(items, count, used, blank);
-    count
-}
-
-// Orders that still stand on a day.
-#[derive(Clone, Copy)]
-struct LastsTo {
-    day: u32,
-}
-
-impl Test<Order> for LastsTo {
-    ghost passed = { λ t. lasts_to t.day };
-
-    fn passes(&self, item: &Order) -> bool {
-        item.last_day >= self.day
-    }
-}
-
-/// Takes the orders whose last day is before a date out of the first `used` lines, and says how many lines are then used.
-pub fn lapse_before(lines: &mut [Order], used: usize, date: Date) -> usize
-    ensures { Leaves free used lines.old (lapsed date.number (take used lines.old)) result lines.new }
-{
-    let day = date.number();
-    retain(lines, used, &LastsTo { day }, Order::FREE)
-}
-
-// Orders that do not end on a day.
-#[derive(Clone, Copy)]
-struct OutlivesDay {
-    day: u32,
-}
-
-impl Test<Order> for OutlivesDay {
-    ghost passed = { λ t x. not (ends_on t.day x) };
-
-    fn passes(&self, item: &Order) -> bool {
-        item.last_day != self.day
-    }
-}
-
-/// Takes the orders whose last day is a date out of the first `used` lines, and says how many lines are then used.
-pub fn lapse_on(lines: &mut [Order], used: usize, date: Date) -> usize
-    ensures { Leaves free used lines.old (ended date.number (take used lines.old)) result lines.new }
-{
-    let day = date.number();
-    retain(lines, used, &OutlivesDay { day }, Order::FREE)
-}
-
-// Orders of another number.
-#[derive(Clone, Copy)]
-struct OtherThan {
-    number: u32,
-}
-
-impl Test<Order> for OtherThan {
-    ghost passed = { λ t. other_than t.number };
-
-    fn passes(&self, item: &Order) -> bool {
-        item.number != self.number
-    }
-}
-
-/// Takes the order of a number out of the first `used` lines, if it is there, and says how many lines are then used.
-pub fn remove(lines: &mut [Order], used: usize, number: u32) -> usize
-    ensures { Leaves free used lines.old (without number (take used lines.old)) result lines.new }
-{
-    retain(lines, used, &OtherThan { number }, Order::FREE)
-}
-
-// Writes an item behind the first `used`.
-fn put<T: Copy>(items: &mut [T], used: usize, item: T)
-    requires { used < length items.old }
-    ensures front { take (used + 1) items.new ≡ take used items.old ++ (item ∷ []) }
-    ensures back { drop (used + 1) items.new ≡ drop (used + 1) items.old }
-{
-    items[used] = item;
-}
-
-/// Writes an order behind the first `used` lines, and says how many lines are then used; refuses it where none is free.
-pub fn append(lines: &mut [Order], used: usize, order: Order) -> Result<usize, Refusal>
-    ensures answered { Passed NoFreeLine (nat_lt used (length lines.old)) result (λ n. n ≡ used + 1) }
-    ensures entered { Entered used order lines.old result lines.new }
-{
-    if used >= lines.len() {
-        return Err(Refusal::NoFreeLine);
-    }
-    put(lines, used, order);
-    Ok(used + 1)
+    let end = used.min(lines.len());
+    let kept = compact(&mut lines[..end], test);
+    lines[kept..end].fill(Order::FREE);
+    kept
 }
 
 // The shares that are left of `left` once the fills of an order are taken off.
@@ -169,32 +105,81 @@ fn reduce(lines: &mut [Order], fills: &[Fill])
     }
 }
 
-// Takes fills off the first `used` lines.
+// Takes fills off the first `used` lines. Not a method, for the reason that `retain` gives.
 fn take_off(lines: &mut [Order], used: usize, fills: &[Fill])
     ensures front { take used lines.new ≡ map (less_fills fills.now) (take used lines.old) }
     ensures back { drop used lines.new ≡ drop used lines.old }
     ensures long { length (take used lines.new) ≡ length (take used lines.old) }
 {
     let end = used.min(lines.len());
-    reduce(&mut lines[0..end], fills);
+    reduce(&mut lines[..end], fills);
 }
 
-// Orders that have shares left.
-#[derive(Clone, Copy)]
-struct Unfilled;
+/// Order lines in memory that the caller brings: those in use stand first.
+// That the memory stays the same is a clause of each edit: of a loan in a field a caller knows nothing else.
+#[derive(Drop)]
+pub struct Lines<'a> {
+    pub slots: &'a mut [Order],
+    /// How many are in use.
+    pub used: usize,
+}
 
-impl Test<Order> for Unfilled {
-    ghost passed = { λ _. is_unfilled };
-
-    fn passes(&self, item: &Order) -> bool {
-        item.left > 0
+impl Lines<'_> {
+    // Keeps the used lines that pass the test.
+    fn retain<P: Fn(&Order) -> bool>(&mut self, test: P)
+        requires { P.IsAlwaysCallable test }
+        ensures same_memory { self.new.slots.ghost_name ≡ self.old.slots.ghost_name }
+        ensures kept { (passed : Order → Bool) → Tests P.Fn passed test → Left self.old (filter passed (in_use self.old)) self.new }
+    {
+        self.used = retain(self.slots, self.used, test);
     }
-}
 
-/// Takes fills off the first `used` lines, takes out those that are filled whole, and says how many lines are then used.
-pub fn settle(lines: &mut [Order], used: usize, fills: &[Fill]) -> usize
-    ensures { Leaves free used lines.old (posted fills.now (take used lines.old)) result lines.new }
-{
-    take_off(lines, used, fills);
-    retain(lines, used, &Unfilled, Order::FREE)
+    /// Takes out the orders whose last day is before a date.
+    pub fn lapse_before(&mut self, date: Date)
+        ensures same_memory { self.new.slots.ghost_name ≡ self.old.slots.ghost_name }
+        ensures lapsed { Left self.old (lapsed date.number (in_use self.old)) self.new }
+    {
+        let day = date.number();
+        self.retain(|order: &Order| order.lasts_to(day));
+    }
+
+    /// Takes out the orders whose last day is a date.
+    pub fn lapse_on(&mut self, date: Date)
+        ensures same_memory { self.new.slots.ghost_name ≡ self.old.slots.ghost_name }
+        ensures ended { Left self.old (ended date.number (in_use self.old)) self.new }
+    {
+        let day = date.number();
+        self.retain(|order: &Order| !order.ends_on(day));
+    }
+
+    /// Takes out the order of a number, if it is there.
+    pub fn remove(&mut self, number: u32)
+        ensures same_memory { self.new.slots.ghost_name ≡ self.old.slots.ghost_name }
+        ensures removed { Left self.old (without number (in_use self.old)) self.new }
+    {
+        self.retain(|order: &Order| order.is_other_than(number));
+    }
+
+    /// Writes an order behind the used lines; refuses it where none is free.
+    pub fn append(&mut self, order: Order) -> Result<(), Refusal>
+        ensures same_memory { self.new.slots.ghost_name ≡ self.old.slots.ghost_name }
+        ensures answered { Passed NoFreeLine (nat_lt self.old.used (length self.old.slots.now)) result (λ _. self.new.used ≡ self.old.used + 1) }
+        ensures entered { Appended order self.old result self.new }
+    {
+        if self.used >= self.slots.len() {
+            return Err(Refusal::NoFreeLine);
+        }
+        self.slots[self.used] = order;
+        self.used += 1;
+        Ok(())
+    }
+
+    /// Takes fills off the used lines, and takes out those that are filled whole.
+    pub fn settle(&mut self, fills: &[Fill])
+        ensures same_memory { self.new.slots.ghost_name ≡ self.old.slots.ghost_name }
+        ensures settled { Left self.old (posted fills.now (in_use self.old)) self.new }
+    {
+        take_off(self.slots, self.used, fills);
+        self.retain(|order: &Order| order.is_unfilled());
+    }
 }

@@ -21,12 +21,10 @@ impl Merit<Order> for PriceTime {
     fn comes_before(&self, a: &Order, b: &Order) -> bool {
         if a.side != b.side {
             false
-        } else if a.limit == b.limit {
-            a.number < b.number
-        } else if a.side == Side::Buy.number() {
-            a.limit > b.limit
+        } else if a.is_on(Side::Buy) {
+            (b.limit, a.number) < (a.limit, b.number)
         } else {
-            a.limit < b.limit
+            (a.limit, a.number) < (b.limit, b.number)
         }
     }
 }

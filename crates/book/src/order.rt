@@ -1,24 +1,21 @@
 ghost use Rattle.std.specs.Prelude.{◌≡◌};
-ghost use Rattle.book.specs.Orders.{side_number, accepts as accepts_at, shares_at, told_apart};
+ghost use Rattle.book.specs.Orders.{side_number, accepts as accepts_at, on_side, shares_at, told_apart};
 
 use super::choose::Distinct;
 
 /// Whether an order buys or sells.
 #[derive(Clone, Copy, PartialEq, Eq, Debug)]
 pub enum Side {
-    Buy,
-    Sell,
+    Buy = 1,
+    Sell = 2,
 }
 
-impl Side {
-    /// The number that stands for this side in an order line.
-    pub fn number(self) -> u32
-        ensures { result ≡ side_number self }
-    {
-        match self {
-            Side::Buy => 1,
-            Side::Sell => 2,
-        }
+impl From<Side> for u32 {
+    ghost from_gives = { λ side n. n ≡ side_number side };
+
+    /// The number that stands for a side in an order line.
+    fn from(side: Side) -> u32 {
+        side as u32
     }
 }
 
@@ -41,6 +38,7 @@ pub struct Order {
 
 impl Order {
     /// A line that is not in use.
+    // A constant, which a derived `default()` is not, so that callers can name it in constants of their own.
     pub const FREE: Order = Order {
         number: 0,
         member: 0,
@@ -51,6 +49,13 @@ impl Order {
         last_day: 0,
     };
 
+    /// Whether this is an order of `side`.
+    pub fn is_on(&self, side: Side) -> bool
+        ensures { result ≡ on_side side self.now }
+    {
+        self.side == u32::from(side)
+    }
+
     /// Whether this is an order of `side` that accepts `price`.
     pub fn accepts(&self, side: Side, price: u32) -> bool
         ensures { result ≡ accepts_at side price self.now }
@@ -59,7 +64,7 @@ impl Order {
             Side::Buy => price <= self.limit,
             Side::Sell => self.limit <= price,
         };
-        self.side == side.number() && within_limit
+        self.is_on(side) && within_limit
     }
 
     /// The shares that this order brings to `side` at `price`.

@@ -25,21 +25,22 @@ pub struct Book<'a> {
     ghost sound: { is_book next lines.now ≡ true },
 }
 
-// Whether a number is from 1 to `most`.
+// Whether a number is from 1 to `most`. A function of its own, as is the next one: with all ranges written out the proof of `in_range` does not close.
 fn up_to(most: u32, n: u32) -> bool
     ensures { result ≡ within 1 most n }
 {
-    1 <= n && n <= most
+    (1..=most).contains(&n)
 }
 
 // Whether a number is a date.
 fn is_date(n: u32) -> bool
     ensures { result ≡ is_date n }
 {
-    Date::new(u64::from(n)).is_ok()
+    Date::try_from(u64::from(n)).is_ok()
 }
 
 // Whether each field of a used line, but for its number, is in its range.
+#[tactic(auto, unfolding(crate::specs::Sounds::in_range))]
 fn in_range(order: &Order) -> bool
     ensures { result ≡ in_range order.now }
 {
@@ -73,17 +74,20 @@ fn stand(lines: &[Order], next: u64) -> bool
     true
 }
 
-/// Refuses lines that are not sound, where `used` of them are in use and `next` is the number that the next order is given.
-/// Sound ones make a `Book` of the first `used`.
-pub fn check_lines(lines: &[Order], used: usize, next: u64) -> Result<(), Refusal>
-    ensures { Passed UnsoundLines (is_sound used next lines.now) result (λ _. (used ≤ length lines.now) × (is_book next (take used lines.now) ≡ true)) }
-{
-    if lines.len() > MAX_LINES || used > lines.len() {
-        return Err(Refusal::UnsoundLines);
-    }
-    if stand(&lines[0..used], next) {
-        Ok(())
-    } else {
-        Err(Refusal::UnsoundLines)
+impl<'a> Book<'a> {
+    // The three come apart, from C and from the caller's memory; the book is what holds them together.
+    /// The book of the first `used` lines, where `next` is the number that the next order is given. Refuses lines that are not sound.
+    pub fn new(lines: &'a [Order], used: usize, next: u64) -> Result<Book<'a>, Refusal>
+        ensures { Passed UnsoundLines (is_sound used next lines.now) result (λ b. (used ≤ length lines.now) × (b.lines.now ≡ take used lines.now) × (b.next ≡ next)) }
+    {
+        if lines.len() > MAX_LINES || used > lines.len() {
+            return Err(Refusal::UnsoundLines);
+        }
+        let lines = &lines[..used];
+        if stand(lines, next) {
+            Ok(Book { lines, next })
+        } else {
+            Err(Refusal::UnsoundLines)
+        }
     }
 }

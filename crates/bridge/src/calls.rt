@@ -9,43 +9,40 @@ ghost use Rattle.bridge.specs.Calls.{filled, is_ladder, priced, rungs_of};
 
 use super::types::Auction;
 use auction::{RungMark, price_within};
-use book::{Book, Fill, Order, PriceTime, check_lines};
+use book::{Book, Fill, Order, PriceTime};
 use ladder::{Either, Flat, Limit, Table};
 use terms::Refusal;
 
-// The ladder of a band, or of a step where the band is 0.
-fn ladder_of(band: u32, step: u32) -> Result<Either<Flat, Table>, Refusal>
-    ensures { Admitted (is_ladder band step) result (λ l. either (λ f. multiples f.step) (λ t. banded t.band) l ≡ rungs_of band step) }
-{
-    if band == 0 {
-        let flat = Flat::new(u64::from(step))?;
-        Ok(Either::Left(flat))
-    } else {
-        let table = Table::new(u64::from(band))?;
-        Ok(Either::Right(table))
+impl Auction {
+    // The ladder of the band, or of the step where the band is 0.
+    fn ladder(&self) -> Result<Either<Flat, Table>, Refusal>
+        ensures { Admitted (is_ladder self.now.band self.now.step) result (λ l. either (λ f. multiples f.step) (λ t. banded t.band) l ≡ rungs_of self.now.band self.now.step) }
+    {
+        if self.band == 0 {
+            Flat::new(u64::from(self.step)).map(Either::Left)
+        } else {
+            Table::new(u64::from(self.band)).map(Either::Right)
+        }
     }
 }
+
+// C hands over lines, `used` and `next` apart: the first step of each call makes a `Book` of them.
 
 /// The auction price of the first `used` lines.
 pub(crate) fn price(
     lines: &[Order],
     used: usize,
     next: u64,
-    auction: Auction,
+    auction: &Auction,
 ) -> Result<Option<RungMark>, Refusal>
-    ensures { result ≡ priced used next auction lines.now }
+    ensures { result ≡ priced used next auction.now lines.now }
 {
-    check_lines(lines, used, next)?;
-    let ladder = ladder_of(auction.band, auction.step)?;
+    let book = Book::new(lines, used, next)?;
     let limit = Limit::new(
-        ladder,
+        auction.ladder()?,
         u64::from(auction.reference),
         u64::from(auction.percent),
     )?;
-    let book = Book {
-        lines: &lines[0..used],
-        next,
-    };
     Ok(price_within(&book, &limit))
 }
 
@@ -61,10 +58,5 @@ pub(crate) fn fill(
     ensures count { result ≡ filled used next price trading lines.now fills.old }
     ensures written { fills.new ≡ recorded result (all_fills ahead price trading (take used lines.now)) fills.old }
 {
-    check_lines(lines, used, next)?;
-    let book = Book {
-        lines: &lines[0..used],
-        next,
-    };
-    book.fill(&PriceTime, price, trading, fills)
+    Book::new(lines, used, next)?.fill(&PriceTime, price, trading, fills)
 }

@@ -5,24 +5,20 @@ ghost use Rattle.bridge.specs.Calls.{answered, code_of, filled, found_of, priced
 
 use super::calls::{fill, price};
 use super::types::{Auction, Found};
-use auction::RungMark;
 use book::{Fill, Order};
+use terms::Refusal;
 
-// A mark as plain numbers.
-fn found_of(mark: Option<RungMark>) -> Found
-    ensures { result ≡ found_of mark }
+// Writes a value into `out` and answers 0, or answers the number of a refusal, which writes nothing: C has no `Result`.
+fn answer<T: Copy>(outcome: Result<T, Refusal>, out: &mut T) -> u32
+    ensures code { result ≡ code_of outcome }
+    ensures out { out.new ≡ answered (λ x. x) outcome out.old }
 {
-    match mark {
-        Some(mark) => Found {
-            price: mark.price,
-            shares: mark.shares,
-            surplus: mark.surplus,
-        },
-        None => Found {
-            price: 0,
-            shares: 0,
-            surplus: 0,
-        },
+    match outcome {
+        Ok(value) => {
+            *out = value;
+            0
+        }
+        Err(why) => u32::from(why),
     }
 }
 
@@ -38,13 +34,7 @@ pub extern "C" fn zubryqan_price(
     ensures code { result ≡ code_of (priced used next auction.now lines.now) }
     ensures found { found.new ≡ answered found_of (priced used next auction.now lines.now) found.old }
 {
-    match price(lines, used, next, *auction) {
-        Ok(mark) => {
-            *found = found_of(mark);
-            0
-        }
-        Err(why) => why.number(),
-    }
+    answer(price(lines, used, next, auction).map(Found::from), found)
 }
 
 /// Fills the first `used` lines at `price` with `trading` shares into `fills`, and writes how many records that takes into `written`; answers 0, or the number of a refusal, which writes nothing.
@@ -62,11 +52,5 @@ pub extern "C" fn zubryqan_fill(
     ensures written { written.new ≡ answered (λ n. n) (filled used next price trading lines.now fills.old) written.old }
     ensures records { fills.new ≡ recorded (filled used next price trading lines.now fills.old) (all_fills ahead price trading (take used lines.now)) fills.old }
 {
-    match fill(lines, used, next, price, trading, fills) {
-        Ok(count) => {
-            *written = count;
-            0
-        }
-        Err(why) => why.number(),
-    }
+    answer(fill(lines, used, next, price, trading, fills), written)
 }

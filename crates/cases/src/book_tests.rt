@@ -1,7 +1,5 @@
 use auction::price_within;
-use book::{
-    Book, Fill, Order, PriceTime, Side, append, check_lines, lapse_before, lapse_on, remove, settle,
-};
+use book::{Book, Fill, Lines, Order, PriceTime, Side};
 use ladder::{Flat, Limit, Table};
 use std::test::Fail;
 use terms::{Date, Refusal};
@@ -10,7 +8,7 @@ fn order(number: u32, side: Side, limit: u32, shares: u32, last_day: u32) -> Ord
     Order {
         number,
         member: 11,
-        side: side.number(),
+        side: u32::from(side),
         limit,
         entered: shares,
         left: shares,
@@ -34,11 +32,7 @@ fn fill(number: u32, shares: u32) -> Fill {
 #[test]
 fn four_orders_find_their_price(rt: HostRuntime) -> Result<(), Fail> {
     let lines = four();
-    check_lines(&lines, 4, 5)?;
-    let book = Book {
-        lines: &lines[0..4],
-        next: 5,
-    };
+    let book = Book::new(&lines, 4, 5)?;
     assert_eq!(rt; book.depth(100_000), (150, 80));
     assert_eq!(rt; book.depth(0), (150, 0));
     let limit = Limit::new(Table::new(2)?, 100_000, 8)?;
@@ -71,11 +65,7 @@ fn a_tie_goes_to_the_higher_rung(rt: HostRuntime) -> Result<(), Fail> {
         order(2, Side::Sell, 99_000, 100, 20240105),
         order(7, Side::Buy, 90_000, 100, 20240105),
     ];
-    check_lines(&lines, 3, 8)?;
-    let book = Book {
-        lines: &lines[0..3],
-        next: 8,
-    };
+    let book = Book::new(&lines, 3, 8)?;
     let table = Limit::new(Table::new(2)?, 100_250, 8)?;
     assert_eq!(rt;
         price_within(&book, &table).ok_or("no price")?.price,
@@ -99,11 +89,7 @@ fn merit_is_price_then_number(rt: HostRuntime) -> Result<(), Fail> {
         order(3, Side::Buy, 101, 5, 20240105),
         order(4, Side::Sell, 90, 9, 20240105),
     ];
-    check_lines(&lines, 4, 5)?;
-    let book = Book {
-        lines: &lines[0..4],
-        next: 5,
-    };
+    let book = Book::new(&lines, 4, 5)?;
     let mut fills = [fill(0, 0); 4];
     assert_eq!(rt; book.fill(&PriceTime, 100, 9, &mut fills)?, 3);
     assert_eq!(rt; fills, [fill(2, 5), fill(3, 4), fill(4, 9), fill(0, 0)]);
@@ -118,76 +104,95 @@ fn merit_is_price_then_number(rt: HostRuntime) -> Result<(), Fail> {
 #[test]
 fn orders_are_entered_and_removed(rt: HostRuntime) -> Result<(), Fail> {
     let [first, second, third, _] = four();
-    let mut lines = [Order::FREE; 3];
-    assert_eq!(rt; append(&mut lines, 0, first)?, 1);
-    assert_eq!(rt; append(&mut lines, 1, second)?, 2);
-    assert_eq!(rt; append(&mut lines, 2, third)?, 3);
-    assert_eq!(rt; append(&mut lines, 3, first), Err(Refusal::NoFreeLine));
-    assert_eq!(rt; remove(&mut lines, 3, 2), 2);
-    assert_eq!(rt; lines, [first, third, Order::FREE]);
-    assert_eq!(rt; remove(&mut lines, 2, 2), 2);
-    assert_eq!(rt;
-        remove(&mut lines, 9, 1),
-        2,
-        "free lines are taken for used ones"
-    );
+    let mut slots = [Order::FREE; 3];
+    let mut lines = Lines {
+        slots: &mut slots,
+        used: 0,
+    };
+    lines.append(first)?;
+    assert_eq!(rt; lines.used, 1);
+    lines.append(second)?;
+    assert_eq!(rt; lines.used, 2);
+    lines.append(third)?;
+    assert_eq!(rt; lines.used, 3);
+    assert_eq!(rt; lines.append(first), Err(Refusal::NoFreeLine));
+    lines.remove(2);
+    assert_eq!(rt; lines.used, 2);
+    assert_eq!(rt; &*lines.slots, [first, third, Order::FREE].as_slice());
+    lines.remove(2);
+    assert_eq!(rt; lines.used, 2);
+    lines.used = 9;
+    lines.remove(1);
+    assert_eq!(rt; lines.used, 2, "free lines are taken for used ones");
     Ok(())
 }
 
 #[test]
 fn orders_lapse_by_their_last_day(rt: HostRuntime) -> Result<(), Fail> {
-    let mut lines = four();
-    let [_, second, _, fourth] = lines;
-    assert_eq!(rt; lapse_before(&mut lines, 4, Date::new(20240105)?), 4);
-    assert_eq!(rt; lapse_on(&mut lines, 4, Date::new(20240105)?), 2);
-    assert_eq!(rt; lines, [second, fourth, Order::FREE, Order::FREE]);
-    assert_eq!(rt; lapse_before(&mut lines, 2, Date::new(20240113)?), 1);
-    assert_eq!(rt; lines, [fourth, Order::FREE, Order::FREE, Order::FREE]);
+    let mut slots = four();
+    let [_, second, _, fourth] = slots;
+    let mut lines = Lines {
+        slots: &mut slots,
+        used: 4,
+    };
+    lines.lapse_before(Date::try_from(20240105)?);
+    assert_eq!(rt; lines.used, 4);
+    lines.lapse_on(Date::try_from(20240105)?);
+    assert_eq!(rt; lines.used, 2);
+    assert_eq!(rt;
+        &*lines.slots,
+        [second, fourth, Order::FREE, Order::FREE].as_slice()
+    );
+    lines.lapse_before(Date::try_from(20240113)?);
+    assert_eq!(rt; lines.used, 1);
+    assert_eq!(rt; slots, [fourth, Order::FREE, Order::FREE, Order::FREE]);
     Ok(())
 }
 
 #[test]
 fn fills_are_settled(rt: HostRuntime) {
-    let mut lines = four();
-    let [_, second, _, mut fourth] = lines;
+    let mut slots = four();
+    let [_, second, _, mut fourth] = slots;
     fourth.left = 100;
-    assert_eq!(rt;
-        settle(&mut lines, 4, &[fill(1, 100), fill(3, 80), fill(4, 20)]),
-        2
-    );
-    assert_eq!(rt; lines, [second, fourth, Order::FREE, Order::FREE]);
+    let mut lines = Lines {
+        slots: &mut slots,
+        used: 4,
+    };
+    lines.settle(&[fill(1, 100), fill(3, 80), fill(4, 20)]);
+    assert_eq!(rt; lines.used, 2);
+    assert_eq!(rt; slots, [second, fourth, Order::FREE, Order::FREE]);
 }
 
 #[test]
 fn unsound_lines_are_refused(rt: HostRuntime) {
-    let unsound = Err(Refusal::UnsoundLines);
+    let unsound = Some(Refusal::UnsoundLines);
     assert_eq!(rt;
-        check_lines(&four(), 4, 4),
+        Book::new(&four(), 4, 4).err(),
         unsound,
         "the next number is in use"
     );
     assert_eq!(rt;
-        check_lines(&four(), 5, 9),
+        Book::new(&four(), 5, 9).err(),
         unsound,
         "fewer lines than used"
     );
     let mut lines = four();
     lines[3].number = 3;
-    assert_eq!(rt; check_lines(&lines, 4, 9), unsound, "two of one number");
+    assert_eq!(rt; Book::new(&lines, 4, 9).err(), unsound, "two of one number");
     assert_eq!(rt;
-        check_lines(&lines, 3, 9),
-        Ok(()),
+        Book::new(&lines, 3, 9).err(),
+        None,
         "a free line may hold anything"
     );
     lines[0].left = 101;
     assert_eq!(rt;
-        check_lines(&lines, 3, 9),
+        Book::new(&lines, 3, 9).err(),
         unsound,
         "more left than entered"
     );
     lines[0] = Order::FREE;
     assert_eq!(rt;
-        check_lines(&lines, 3, 9),
+        Book::new(&lines, 3, 9).err(),
         unsound,
         "a free line among the used"
     );

@@ -18,7 +18,7 @@ fn bank() -> FoundingSheet {
 // The bank's share, with a period that started on 5 January 2024.
 fn started(founding: FoundingSheet) -> Result<Listing, Refusal> {
     let mut listing = Listing::new(founding)?;
-    listing.open(Date::new(20240105)?)?;
+    listing.open(Date::try_from(20240105)?)?;
     Ok(listing)
 }
 
@@ -26,7 +26,7 @@ fn started(founding: FoundingSheet) -> Result<Listing, Refusal> {
 fn later(founding: FoundingSheet, price: u32, shares: u32, date: u64) -> Result<Sheet, Refusal> {
     let mut listing = started(founding)?;
     listing.post(Trade::new(price, shares));
-    listing.open(Date::new(date)?)?;
+    listing.open(Date::try_from(date)?)?;
     Ok(listing.sheet())
 }
 
@@ -36,7 +36,7 @@ fn a_threshold_is_reached(rt: HostRuntime) -> Result<(), Fail> {
     listing.post(Trade::new(100_000, 9_999));
     assert_eq!(rt; listing.sheet().volume, 9_999);
     listing.post(None);
-    assert_eq!(rt; listing.sheet().start, Some(Date::new(20240105)?));
+    assert_eq!(rt; listing.sheet().start, Some(Date::try_from(20240105)?));
     listing.post(Trade::new(100_000, 1));
     assert_eq!(rt; listing.sheet().start, None);
     assert_eq!(rt; listing.sheet().gate, Gate::Two);
@@ -67,7 +67,7 @@ fn the_average_is_the_next_reference(rt: HostRuntime) -> Result<(), Fail> {
     let mut listing = started(bank())?;
     listing.post(Trade::new(100_000, 1));
     listing.post(Trade::new(100_001, 1));
-    listing.open(Date::new(20250110)?)?;
+    listing.open(Date::try_from(20250110)?)?;
     assert_eq!(rt; listing.reference(), 100_001);
     Ok(())
 }
@@ -83,7 +83,7 @@ fn intermediate_periods_widen_the_limit(rt: HostRuntime) -> Result<(), Fail> {
     assert_eq!(rt; sixth.limit, 28);
     assert_eq!(rt; sixth.recent, 0);
     let anew = later(bank(), 100_000, 999, 20250110)?;
-    assert_eq!(rt; anew.start, Some(Date::new(20250110)?));
+    assert_eq!(rt; anew.start, Some(Date::try_from(20250110)?));
     assert_eq!(rt; anew.limit, 8);
     Ok(())
 }
@@ -109,7 +109,7 @@ fn the_example_of_the_rules(rt: HostRuntime) -> Result<(), Fail> {
     check_line(&rt, listing.sheet(), Gate::One, [8, 100_000, 0, 1, 0]);
     listing.post(Trade::new(100_000, 999));
     check_line(&rt, listing.sheet(), Gate::One, [8, 100_000, 999, 1, 999]);
-    listing.open(Date::new(20240308)?)?;
+    listing.open(Date::try_from(20240308)?)?;
     check_line(&rt, listing.sheet(), Gate::One, [12, 100_000, 999, 2, 0]);
     listing.post(Trade::new(101_000, 1_000));
     check_line(
@@ -118,11 +118,11 @@ fn the_example_of_the_rules(rt: HostRuntime) -> Result<(), Fail> {
         Gate::One,
         [12, 100_000, 1_999, 2, 1_000],
     );
-    listing.open(Date::new(20240510)?)?;
+    listing.open(Date::try_from(20240510)?)?;
     check_line(&rt, listing.sheet(), Gate::One, [12, 100_000, 1_999, 3, 0]);
     listing.post(Trade::new(102_000, 8_001));
     check_line(&rt, listing.sheet(), Gate::Two, [6, 101_700, 0, 1, 0]);
-    listing.open(Date::new(20240517)?)?;
+    listing.open(Date::try_from(20240517)?)?;
     check_line(&rt, listing.sheet(), Gate::Two, [6, 101_700, 0, 1, 0]);
     Ok(())
 }
@@ -148,9 +148,9 @@ fn gate_3_stays(rt: HostRuntime) -> Result<(), Fail> {
 #[test]
 fn a_period_without_shares_keeps_its_reference(rt: HostRuntime) -> Result<(), Fail> {
     let mut listing = started(bank())?;
-    listing.open(Date::new(20241231)?)?;
+    listing.open(Date::try_from(20241231)?)?;
     assert_eq!(rt; listing.limit_1(), 28);
-    listing.open(Date::new(20250105)?)?;
+    listing.open(Date::try_from(20250105)?)?;
     assert_eq!(rt; listing.reference(), 100_000);
     assert_eq!(rt; listing.limit_1(), 8);
     assert_eq!(rt; listing.sheet().gate, Gate::One);
@@ -168,10 +168,16 @@ fn the_cap_narrows_limit_2(rt: HostRuntime) -> Result<(), Fail> {
 #[test]
 fn openings_go_forward(rt: HostRuntime) -> Result<(), Fail> {
     let mut listing = started(bank())?;
-    assert_eq!(rt; listing.open(Date::new(20240105)?), Err(Refusal::NotLater));
-    assert_eq!(rt; listing.open(Date::new(20240104)?), Err(Refusal::NotLater));
-    assert_eq!(rt; listing.last(), Some(Date::new(20240105)?));
-    assert_eq!(rt; listing.open(Date::new(20240106)?), Ok(()));
+    assert_eq!(rt;
+        listing.open(Date::try_from(20240105)?),
+        Err(Refusal::NotLater)
+    );
+    assert_eq!(rt;
+        listing.open(Date::try_from(20240104)?),
+        Err(Refusal::NotLater)
+    );
+    assert_eq!(rt; listing.last(), Some(Date::try_from(20240105)?));
+    assert_eq!(rt; listing.open(Date::try_from(20240106)?), Ok(()));
     Ok(())
 }
 
@@ -213,7 +219,7 @@ fn founding_values_out_of_range_are_refused(rt: HostRuntime) {
 #[test]
 fn numbers_that_are_no_date_are_refused(rt: HostRuntime) {
     for day in [20240229, 20000229, 20000101, 20991231] {
-        assert!(rt; Date::new(day).is_ok());
+        assert!(rt; Date::try_from(day).is_ok());
     }
     for day in [
         20230229,
@@ -226,17 +232,17 @@ fn numbers_that_are_no_date_are_refused(rt: HostRuntime) {
         0,
         u64::MAX,
     ] {
-        assert_eq!(rt; Date::new(day).err(), Some(Refusal::InvalidDate));
+        assert_eq!(rt; Date::try_from(day).err(), Some(Refusal::InvalidDate));
     }
 }
 
 #[test]
 fn months_are_whole(rt: HostRuntime) -> Result<(), Fail> {
-    let start = Date::new(20240131)?;
-    assert_eq!(rt; Date::new(20240228)?.months_since(start), 0);
-    assert_eq!(rt; Date::new(20240331)?.months_since(start), 2);
-    assert_eq!(rt; Date::new(20250130)?.months_since(start), 11);
-    assert_eq!(rt; Date::new(20250131)?.months_since(start), 12);
-    assert_eq!(rt; start.months_since(Date::new(20250131)?), 0);
+    let start = Date::try_from(20240131)?;
+    assert_eq!(rt; Date::try_from(20240228)?.months_since(start), 0);
+    assert_eq!(rt; Date::try_from(20240331)?.months_since(start), 2);
+    assert_eq!(rt; Date::try_from(20250130)?.months_since(start), 11);
+    assert_eq!(rt; Date::try_from(20250131)?.months_since(start), 12);
+    assert_eq!(rt; start.months_since(Date::try_from(20250131)?), 0);
     Ok(())
 }

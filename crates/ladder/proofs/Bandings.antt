@@ -64,8 +64,8 @@ module _ (c : ℕ) (low : 0 < c) (high : c ≤ 6) where
       (λ (gt : row_of p < row_of k). absurd (omega (arith, row_below p k (row_of p) (row_of k) a b gt, b.low))))
       (cases_order (row_of k) (row_of p))
 
-  pub lowest_moves : (p : ℕ) (r : Option ℕ) → Lowest (multiples (step_of (row_of p) c)) p r → Lowest (banded c) p r
-  lowest_moves p = nearest_moves (λ a b. a ≤ b) upward (multiples (step_of (row_of p) c)) (banded c) p (alike_above p)
+pub lowest_moves : (c step p : ℕ) (r : Option ℕ) → 0 < c → c ≤ 6 → step ≡ step_of (row_of p) c → Lowest (multiples step) p r → Lowest (banded c) p r
+lowest_moves c step p r low high is found = nearest_moves (λ a b. a ≤ b) upward (multiples (step_of (row_of p) c)) (banded c) p (alike_above c low high p) r (rw is at found)
 
-  pub highest_moves : (p : ℕ) (r : Option ℕ) → Highest (multiples (step_of (row_of p) c)) p r → Highest (banded c) p r
-  highest_moves p = nearest_moves (λ a b. b ≤ a) downward (multiples (step_of (row_of p) c)) (banded c) p (alike_below p)
+pub highest_moves : (c step p : ℕ) (r : Option ℕ) → 0 < c → c ≤ 6 → step ≡ step_of (row_of p) c → Highest (multiples step) p r → Highest (banded c) p r
+highest_moves c step p r low high is found = nearest_moves (λ a b. b ≤ a) downward (multiples (step_of (row_of p) c)) (banded c) p (alike_below c low high p) r (rw is at found)

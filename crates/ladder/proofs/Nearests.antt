@@ -1,5 +1,5 @@
 -- The nearest rung in either direction: it is one, and when it is that of another set too. Assumes nothing.
-use Rattle.std.proofs.Common.{◌≡◌, ℕ, ◌≤◌, ◌⊎◌, Some, None, Option, sym, refl, ap, ◌∙◌, ⊎_elim, arith}
+use Rattle.std.proofs.Common.{◌≡◌, ℕ, ◌≤◌, ◌⊎◌, Some, None, Option, sym, ap, ◌∙◌, ⊎_elim, arith}
 use Rattle.ladder.specs.Rungs.{Rungs, In, Nearest}
 
 -- a direction: what is ahead of what follows is ahead, and two numbers are not each ahead of the other
@@ -12,12 +12,6 @@ upward = record { joins = λ a b c x y. omega arith; meets = λ a b x y. omega a
 
 pub downward : Direction (λ a b. b ≤ a)
 downward = record { joins = λ a b c x y. omega arith; meets = λ a b x y. omega arith }
-
-pub one_nearest : (ahead : ℕ → ℕ → Type 0) → Direction ahead → (rungs : Rungs) (p : ℕ) (a b : Option ℕ) → Nearest ahead rungs p a → Nearest ahead rungs p b → a ≡ b
-one_nearest ahead d rungs p None None x y = refl
-one_nearest ahead d rungs p None (Some b) x y = absurd (x b y.1 y.0)
-one_nearest ahead d rungs p (Some a) None x y = absurd (y a x.1 x.0)
-one_nearest ahead d rungs p (Some a) (Some b) x y = ap Some (d.meets a b (x.2 b y.1 y.0) (y.2 a x.1 x.0))
 
 -- from p on two sets agree at k, or have both a rung e before it
 pub record Detour (ahead : ℕ → ℕ → Type 0) (these those : Rungs) (p k : ℕ) : Type 0 where

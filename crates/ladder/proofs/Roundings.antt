@@ -1,44 +1,34 @@
 -- Multiples of a step: the nearest at or below a number, and at or above it. Assumes nothing.
-use Rattle.std.proofs.Common.{◌≡◌, ℕ, ◌+◌, ◌*◌, ◌/◌, ◌%◌, ◌<◌, ◌≤◌, min, ⊎_elim, mul-le-mul_right, mod-lt, add-mul, div-add-mod', arith}
-use native.Mathlib.Nat.{mul-mod_left}
-use Rattle.std.proofs.lemmas.Bool.{cases_lt}
+use Rattle.std.proofs.Common.{◌≡◌, ◌∙◌, ◌-◌, ltb, leb, max, ◌^◌, Option, Some, None, ℕ, ◌+◌, ◌*◌, ◌/◌, ◌%◌, ◌<◌, ◌≤◌, min, ⊎_elim, mod-lt, add-mul, div-add-mod', arith}
+use Rattle.std.proofs.Math.Nat.{mul-mod_left, add-mod-mod, dvd-sub}
+use Rattle.std.proofs.lemmas.Nat.Gcd.{le_of_dvd, dvd_of_mod-eq-zero}
+use Rattle.std.specs.Bool.{then_some}
+use Rattle.std.specs.Option.{SomeIff, MatchOption}
+use Rattle.std.specs.Int.{next_multiple_of}
+use Rattle.std.proofs.lemmas.Bool.{cases_lt, lt-ltb, le-ltb, le-leb, lt-leb}
+use Rattle.ladder.specs.Rungs.{Lowest, Highest}
 use Rattle.std.proofs.lemmas.Bool.Decides.{nat_tests}
-use Rattle.ladder.specs.Multiples.{multiples_priced}
+use Rattle.ladder.specs.Multiples.{multiples, multiples_priced}
 use Rattle.ladder.specs.Laws.{WholeSteps}
-
--- two multiples that differ are a step apart
-apart : (s a b : ℕ) → a % s ≡ 0 → b % s ≡ 0 → a < b → a + s ≤ b
-apart s a b ha hb h =
-    let ea = div-add-mod' a s in
-    let eb = div-add-mod' b s in
-    ⊎_elim
-    (λ (lt : a / s < b / s).
-    let up : a / s + 1 ≤ b / s = omega arith in
-    omega (arith, mul-le-mul_right s up, add-mul (a / s) 1 s))
-    (λ (le : b / s ≤ a / s). omega (arith, mul-le-mul_right s le))
-    (cases_lt (a / s) (b / s))
 
 -- a multiple less than a step away is at least as far as no other
 nearest : (s a b : ℕ) → a % s ≡ 0 → b % s ≡ 0 → a < b + s → a ≤ b
 nearest s a b ha hb h =
     ⊎_elim
-    (λ (lt : b < a). omega (arith, apart s b a hb ha lt))
+    (λ (lt : b < a). omega (arith, le_of_dvd (omega arith) (dvd-sub s (dvd_of_mod-eq-zero s ha) (dvd_of_mod-eq-zero s hb))))
     (λ (le : a ≤ b). le)
     (cases_lt b a)
 
--- the whole steps that go into x, and one more where they fall short
-abbrev pub down : ℕ → ℕ → ℕ
+-- the multiple of s at or below x
+abbrev down : ℕ → ℕ → ℕ
 down s x = x / s * s
 
-abbrev pub up : ℕ → ℕ → ℕ
-up s x = (x / s + min 1 (x % s)) * s
+record Down (s x : ℕ) : Type 0 where
+  on : down s x % s ≡ 0
+  at : down s x ≤ x
+  best : (k : ℕ) → k ≤ x → k % s ≡ 0 → k ≤ down s x
 
-pub record Down (s x : ℕ) : Type 0 where
-  pub on : down s x % s ≡ 0
-  pub at : down s x ≤ x
-  pub best : (k : ℕ) → k ≤ x → k % s ≡ 0 → k ≤ down s x
-
-pub goes_down : (s x : ℕ) → 0 < s → Down s x
+goes_down : (s x : ℕ) → 0 < s → Down s x
 goes_down s x h =
     let e = div-add-mod' x s in
     let m = mod-lt x h in
@@ -48,33 +38,58 @@ goes_down s x h =
       best = λ k le hk. nearest s k (down s x) hk (mul-mod_left (x / s) s) (omega arith);
     }
 
-pub record Up (s x : ℕ) : Type 0 where
-  pub on : up s x % s ≡ 0
-  pub at : x ≤ up s x
-  pub close : up s x < x + s
-  pub best : (k : ℕ) → x ≤ k → k % s ≡ 0 → up s x ≤ k
+record Up (s x : ℕ) : Type 0 where
+  on : next_multiple_of x s % s ≡ 0
+  at : x ≤ next_multiple_of x s
+  best : (k : ℕ) → x ≤ k → k % s ≡ 0 → next_multiple_of x s ≤ k
 
--- a number is up to a step below the multiple
-pub goes_up : (s x : ℕ) → 0 < s → Up s x
-goes_up s x h =
+multiple_on : (s x : ℕ) → 0 < s → next_multiple_of x s % s ≡ 0
+multiple_on s x h =
     let e = div-add-mod' x s in
     let m = mod-lt x h in
-    let on = mul-mod_left (x / s + min 1 (x % s)) s in
-    let ends : (x ≤ up s x) × (up s x < x + s) =
-    ⊎_elim
-    (λ (lt : x % s < 1).
-    let none : min 1 (x % s) ≡ 0 = omega arith in
-    rw none (omega (arith, add-mul (x / s) 0 s), omega (arith, add-mul (x / s) 0 s)))
-    (λ (ge : 1 ≤ x % s).
-    let one : min 1 (x % s) ≡ 1 = omega arith in
-    rw one (omega (arith, add-mul (x / s) 1 s), omega (arith, add-mul (x / s) 1 s)))
-    (cases_lt (x % s) 1) in
+    let is : x + (s - x % s) ≡ (x / s + 1) * s = omega (arith, add-mul (x / s) 1 s) in
+    add-mod-mod x (s - x % s) s ∙ rw is (mul-mod_left (x / s + 1) s)
+
+goes_up : (s x : ℕ) → 0 < s → Up s x
+goes_up s x h =
+    let m = mod-lt (s - x % s) h in
     record {
-      on = on;
-      at = ends.0;
-      close = ends.1;
-      best = λ k le hk. nearest s (up s x) k on hk (omega arith);
+      on = multiple_on s x h;
+      at = omega arith;
+      best = λ k le hk. nearest s (next_multiple_of x s) k (multiple_on s x h) hk (omega arith);
     }
+
+-- rounding down, then dropping 0, which is no price
+pub rounds_down : (s p m : ℕ) (r : Option ℕ) → 0 < s → m ≡ min p 1000000000 → r ≡ then_some (ltb 0 (down s m)) (down s m) → Highest (multiples s) p r
+rounds_down s p m r low last is =
+    let d = goes_down s m low in
+    let on = d.on in
+    let at = d.at in
+    ⊎_elim
+    (λ (lt : 0 < down s m).
+    rw (is, lt-ltb 0 _ lt) (grind (arith, nat_tests), omega arith, λ k h hk. d.best k (grind (arith, nat_tests)) (grind (arith, nat_tests))))
+    (λ (le : down s m ≤ 0).
+    rw (is, le-ltb 0 _ le) (λ k h hk. let best = d.best k (grind (arith, nat_tests)) (grind (arith, nat_tests)) in grind (arith, nat_tests)))
+    (cases_lt 0 (down s m))
+
+-- rounding up, then dropping what is above the last price or does not fit
+pub rounds_up : (s p m : ℕ) → 0 < s → m ≡ max p 1 → (o r : Option ℕ) → SomeIff o ((0 < s) × (next_multiple_of m s < 2 ^ 32)) (next_multiple_of m s) → MatchOption o (r ≡ None) (λ x. r ≡ then_some (leb x 1000000000) x) → Lowest (multiples s) p r
+rounds_up s p m low first None r made kept =
+    let u = goes_up s m low in
+    rw kept (λ k le on.
+    let best = u.best k (grind (arith, nat_tests)) (grind (arith, nat_tests)) in
+    made (low, grind (arith, nat_tests)))
+rounds_up s p m low first (Some x) r made kept =
+    let u = goes_up s m low in
+    let is = made.1 in
+    let on = u.on in
+    let at = u.at in
+    ⊎_elim
+    (λ (lt : 1000000000 < x).
+    rw (kept, lt-leb x _ lt) (λ k le hk. let best = u.best k (grind (arith, nat_tests)) (grind (arith, nat_tests)) in grind (arith, nat_tests)))
+    (λ (le : x ≤ 1000000000).
+    rw (kept, le-leb x _ le) (grind (arith, nat_tests), omega arith, λ k le hk. let best = u.best k (grind (arith, nat_tests)) (grind (arith, nat_tests)) in omega arith))
+    (cases_lt 1000000000 x)
 
 -- a price is a multiple when whole steps make it
 pub whole_steps : WholeSteps

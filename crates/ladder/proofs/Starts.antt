@@ -1,9 +1,10 @@
 -- The rows of the tick table: they rise, each number is in one, and a row's step divides both its ends. Assumes nothing.
-use Rattle.std.proofs.Common.{◌≡◌, ℕ, zero, suc, ◌+◌, ◌-◌, ◌*◌, ◌/◌, ◌%◌, ◌<◌, ◌≤◌, Bool, true, ◌&&◌, eqb, ltb, leb, refl, ⊎_elim, arith}
-use Rattle.std.proofs.lemmas.Bool.{le-leb, lt-leb, cond-true, cond-false, cases_lt, ltb-true}
+use Rattle.std.proofs.Common.{◌≡◌, ℕ, zero, suc, ◌+◌, ◌-◌, ◌%◌, ◌<◌, ◌≤◌, Bool, true, ◌&&◌, eqb, ltb, leb, refl, ⊎_elim, arith}
+use Rattle.std.proofs.lemmas.Bool.{le-leb, lt-leb, cases_lt, ltb-true}
 use Rattle.std.proofs.lemmas.Bool.Decides.{Decides-below_and, nat_tests}
 use Rattle.ladder.specs.Bands.{series, start, step_of, row_to, row_of}
 use Rattle.ladder.specs.Rows.{InRow}
+use Rattle.ladder.specs.Laws.{OneRow}
 
 -- a test that passes at each number below n
 abbrev all : (ℕ → Bool) → ℕ → Bool
@@ -25,6 +26,10 @@ start_mono r (suc s) le h =
     (λ (lt : r < suc s). omega (arith, start_mono r s (omega arith) (omega arith), rising s (omega arith)))
     (λ (ge : suc s ≤ r). let e : r ≡ suc s = omega arith in rw e (omega arith))
     (cases_lt r (suc s))
+
+pub start_zero : start 0 ≡ 0
+unfolding start
+start_zero = refl
 
 pub first_start : (r : ℕ) → 0 < r → r ≤ 18 → 1 ≤ start r
 unfolding start series
@@ -54,31 +59,14 @@ fits_from r c t =
     }
 
 -- one test of the whole table
-fits_placed : (i : ℕ) → i < 114 → fits (i / 6) (i % 6 + 1) ≡ true
+fits_all : (r : ℕ) → r < 19 → all (λ c. fits r (c + 1)) 6 ≡ true
 unfolding step_of start series
-fits_placed = all_at (λ i. fits (i / 6) (i % 6 + 1)) 114 refl
-
-pub place_row : (r c : ℕ) → 0 < c → c ≤ 6 → (r * 6 + c - 1) / 6 ≡ r
-place_row r c low high = omega arith
-
-pub place_band : (r c : ℕ) → 0 < c → c ≤ 6 → (r * 6 + c - 1) % 6 + 1 ≡ c
-place_band r c low high = omega arith
+fits_all = all_at (λ r. all (λ c. fits r (c + 1)) 6) 19 refl
 
 pub fits_at : (r c : ℕ) → r < 19 → 0 < c → c ≤ 6 → Fits r c
 fits_at r c hr low high =
-    fits_from r c (rw (place_row r c low high, place_band r c low high) at (fits_placed (r * 6 + c - 1) (omega arith)))
-
-pub row_hit : (i p : ℕ) → 0 < i → start i ≤ p → row_to i p ≡ i
-unfolding row_to
-row_hit zero p h le = refl
-row_hit (suc i) p h le = cond-true (leb (start (suc i)) p) (suc i) (row_to i p) (le-leb (start (suc i)) p le)
-
-pub row_miss : (i p : ℕ) → 0 < i → p < start i → row_to i p ≡ row_to (i - 1) p
-unfolding row_to
-row_miss zero p h lt = refl
-row_miss (suc i) p h lt =
-    let e : suc i - 1 ≡ i = omega arith in
-    rw e (cond-false (leb (start (suc i)) p) (suc i) (row_to i p) (lt-leb (start (suc i)) p lt))
+    let e : c - 1 + 1 ≡ c = omega arith in
+    fits_from r c (rw e at (all_at (λ c. fits r (c + 1)) 6 (fits_all r hr) (c - 1) (omega arith)))
 
 -- p is in row r of rows 0 to n
 record InTo (n p r : ℕ) : Type 0 where
@@ -100,12 +88,9 @@ row_to_lem (suc n) p =
     ⊎_elim
     (λ (lt : p < start (suc n)).
     let t = row_to_lem n p in
-    let e : suc n - 1 ≡ n = omega arith in
-    let m = rw e at (row_miss (suc n) p (omega arith) lt) in
-    rw m (record { row = omega arith; low = t.low; high = λ h. row_ends n p (row_to n p) t lt }))
+    rw (lt-leb (start (suc n)) p lt) (record { row = omega arith; low = t.low; high = λ h. row_ends n p (row_to n p) t lt }))
     (λ (le : start (suc n) ≤ p).
-    let e = row_hit (suc n) p (omega arith) le in
-    rw e (record { row = omega arith; low = le; high = λ h. omega arith }))
+    rw (le-leb (start (suc n)) p le) (record { row = omega arith; low = le; high = λ h. omega arith }))
     (cases_lt p (start (suc n)))
 
 pub row_in : (p : ℕ) → InRow p (row_of p)
@@ -128,5 +113,11 @@ row_is p r h =
     (cases_lt r (row_of p)))
     (cases_lt (row_of p) r)
 
+pub one_row : OneRow
+one_row p = (row_in p, row_is p)
+
 pub row_of_start : (r : ℕ) → r < 19 → row_of (start r) ≡ r
 row_of_start r h = row_is (start r) r (record { row = h; low = omega arith; high = λ lt. rising r lt })
+
+pub step_fits : (p c : ℕ) → 0 < c → c ≤ 6 → (0 < step_of (row_of p) c) × (step_of (row_of p) c ≤ 1000000000)
+step_fits p c low high = let f = fits_at (row_of p) c (row_in p).row low high in (f.some, f.small)

@@ -5,3 +5,4 @@ pub mod Rows
 pub mod Limits
 pub mod Eithers
 pub mod Laws
+pub mod TickRows

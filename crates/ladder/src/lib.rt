@@ -2,18 +2,16 @@
 #![tactic(auto)]
 
 mod either;
-mod flat;
 mod laws;
 mod limit;
 mod multiples;
 mod rows;
 mod rungs;
-mod steps;
 mod table;
 
 pub use either::Either;
-pub use flat::Flat;
 pub use laws::ladder_laws;
 pub use limit::Limit;
+pub use multiples::{Flat, Multiples};
 pub use rungs::Ladder;
 pub use table::{Table, TableRow};

@@ -4,10 +4,10 @@ ghost use Rattle.terms.specs.Refusals.{Admitted};
 ghost use Rattle.ladder.specs.Limits.{limited, limited_in};
 
 use super::rungs::Ladder;
-use terms::{Refusal, is_price};
+use terms::{MAX_PRICE, Refusal, admit};
 
 // The widest limit, in percent.
-const MAX_PERCENT: u64 = 100;
+const MAX_PERCENT: u32 = 100;
 
 /// A limit over a ladder: its rungs that are at most `percent` per cent of `centre` away from it.
 #[derive(Drop)]
@@ -25,13 +25,10 @@ impl<L: Ladder + Drop> Limit<L> {
     pub fn new(inner: L, centre: u64, percent: u64) -> Result<Limit<L>, Refusal>
         ensures { Admitted (is_price centre && nat_le percent 100) result (λ l. (l.inner ≡ inner) × (l.centre ≡ centre) × (l.percent ≡ percent)) }
     {
-        if !is_price(centre) || percent > MAX_PERCENT {
-            return Err(Refusal::Parameter);
-        }
         Ok(Limit {
             inner,
-            centre: centre as u32,
-            percent: percent as u32,
+            centre: admit(1, MAX_PRICE, centre)?,
+            percent: admit(0, MAX_PERCENT, percent)?,
         })
     }
 }
@@ -46,7 +43,8 @@ impl<L: Ladder> Limit<L> {
 
     // How far a rung may be from the centre.
     fn reach(&self) -> u32
-        ensures { (result ≡ self.now.percent * self.now.centre / 100) × (result ≤ self.now.centre) }
+        ensures part { result ≡ self.now.percent * self.now.centre / 100 }
+        ensures within { result ≤ self.now.centre }
     {
         (u64::from(self.percent) * u64::from(self.centre) / 100) as u32
     }
@@ -63,21 +61,15 @@ impl<L: Ladder> Ladder for Limit<L> {
 
     fn at_or_above(&self, p: u32) -> Option<u32> {
         let reach = self.reach();
-        let rung = self.inner.at_or_above(p.max(self.centre - reach))?;
-        if rung <= self.centre + reach {
-            Some(rung)
-        } else {
-            None
-        }
+        self.inner
+            .at_or_above(p.max(self.centre - reach))
+            .filter(|rung| *rung <= self.centre + reach)
     }
 
     fn at_or_below(&self, p: u32) -> Option<u32> {
         let reach = self.reach();
-        let rung = self.inner.at_or_below(p.min(self.centre + reach))?;
-        if rung >= self.centre - reach {
-            Some(rung)
-        } else {
-            None
-        }
+        self.inner
+            .at_or_below(p.min(self.centre + reach))
+            .filter(|rung| *rung >= self.centre - reach)
     }
 }

@@ -1,59 +1,117 @@
-ghost use Rattle.std.specs.Prelude.{◌≡◌, ◌<◌, ◌≤◌};
+ghost use Rattle.std.specs.Prelude.{ℕ, ◌≡◌, ◌-◌, ◌<◌, ◌≤◌, slice_index, nat_le};
 ghost use Rattle.ladder.specs.Bands.{start, step_of, row_of};
+ghost use Rattle.ladder.specs.TickRows.{rule, ticks};
 
-use super::steps::STEPS;
-
-const ROWS: usize = 19;
-
-const BANDS: usize = 6;
-
-// Where each row starts.
-const STARTS: [u32; 19] = [
-    0,
-    1_000,
-    2_000,
-    5_000,
-    10_000,
-    20_000,
-    50_000,
-    100_000,
-    200_000,
-    500_000,
-    1_000_000,
-    2_000_000,
-    5_000_000,
-    10_000_000,
-    20_000_000,
-    50_000_000,
-    100_000_000,
-    200_000_000,
-    500_000_000,
-];
-
-/// Where a row starts.
-pub(crate) fn row_start(row: usize) -> u32
-    requires { row < 19 }
-    ensures { result ≡ start row }
-{
-    STARTS[row]
+/// A row of the tick table in ten-thousandths of a euro: where it starts, and its steps in bands 1 to 6.
+#[derive(Clone, Copy)]
+pub(crate) struct TickRow {
+    pub(crate) start: u32,
+    pub(crate) steps: [u32; 6],
 }
 
-/// The step of a row in a band.
-pub(crate) fn row_step(row: usize, band: u8) -> u32
-    requires { (row < 19) × ((0 < band) × (band ≤ 6)) }
-    ensures { result ≡ step_of row band }
+impl TickRow {
+    // Whether the row starts at or below `p`.
+    fn starts_by(&self, p: u32) -> bool
+        ensures { result ≡ nat_le self.now.start p }
+    {
+        self.start <= p
+    }
+}
+
+const ROWS: [TickRow; 19] = [
+    TickRow {
+        start: 0,
+        steps: [5, 2, 1, 1, 1, 1],
+    },
+    TickRow {
+        start: 1_000,
+        steps: [10, 5, 2, 1, 1, 1],
+    },
+    TickRow {
+        start: 2_000,
+        steps: [20, 10, 5, 2, 1, 1],
+    },
+    TickRow {
+        start: 5_000,
+        steps: [50, 20, 10, 5, 2, 1],
+    },
+    TickRow {
+        start: 10_000,
+        steps: [100, 50, 20, 10, 5, 2],
+    },
+    TickRow {
+        start: 20_000,
+        steps: [200, 100, 50, 20, 10, 5],
+    },
+    TickRow {
+        start: 50_000,
+        steps: [500, 200, 100, 50, 20, 10],
+    },
+    TickRow {
+        start: 100_000,
+        steps: [1_000, 500, 200, 100, 50, 20],
+    },
+    TickRow {
+        start: 200_000,
+        steps: [2_000, 1_000, 500, 200, 100, 50],
+    },
+    TickRow {
+        start: 500_000,
+        steps: [5_000, 2_000, 1_000, 500, 200, 100],
+    },
+    TickRow {
+        start: 1_000_000,
+        steps: [10_000, 5_000, 2_000, 1_000, 500, 200],
+    },
+    TickRow {
+        start: 2_000_000,
+        steps: [20_000, 10_000, 5_000, 2_000, 1_000, 500],
+    },
+    TickRow {
+        start: 5_000_000,
+        steps: [50_000, 20_000, 10_000, 5_000, 2_000, 1_000],
+    },
+    TickRow {
+        start: 10_000_000,
+        steps: [100_000, 50_000, 20_000, 10_000, 5_000, 2_000],
+    },
+    TickRow {
+        start: 20_000_000,
+        steps: [200_000, 100_000, 50_000, 20_000, 10_000, 5_000],
+    },
+    TickRow {
+        start: 50_000_000,
+        steps: [500_000, 200_000, 100_000, 50_000, 20_000, 10_000],
+    },
+    TickRow {
+        start: 100_000_000,
+        steps: [1_000_000, 500_000, 200_000, 100_000, 50_000, 20_000],
+    },
+    TickRow {
+        start: 200_000_000,
+        steps: [2_000_000, 1_000_000, 500_000, 200_000, 100_000, 50_000],
+    },
+    TickRow {
+        start: 500_000_000,
+        steps: [5_000_000, 2_000_000, 1_000_000, 500_000, 200_000, 100_000],
+    },
+];
+
+// The row that a number is in, of rows that are the rule's.
+fn row_among(rows: &[TickRow; 19], p: u32) -> TickRow
+    requires { rows.now ≡ ticks }
+    ensures { result ≡ rule (row_of p) }
 {
-    STEPS[row * BANDS + usize::from(band) - 1]
+    // row 0 starts at 0, so at least one row starts at or below p
+    rows[rows.partition_point(|row| row.starts_by(p)) - 1]
 }
 
 /// The row that a number is in.
-pub(crate) fn row_of(p: u32) -> usize
-    ensures { (result ≡ row_of p) × (result < 19) }
+// The rule is opened here, so that the check computes it at each row of the table.
+#[tactic(auto, using(crate::proofs::TickRows::step_by_rule), unfolding(crate::specs::Bands::start, crate::specs::Bands::step_of, crate::specs::Bands::series))]
+pub(crate) fn row_at(p: u32) -> TickRow
+    ensures start { result.start ≡ start (row_of p) }
+    ensures steps { (band : ℕ) → 0 < band → band ≤ 6 → slice_index result.steps (band - 1) ≡ step_of (row_of p) band }
 {
-    for row in (1..ROWS).rev() {
-        if row_start(row) <= p {
-            return row;
-        }
-    }
-    0
+    row_among(&ROWS, p)
 }

@@ -14,6 +14,7 @@ pub trait Ladder {
     fn is_rung(&self, p: u32) -> bool
         ensures { result ≡ rungs self.now p };
 
+    // Two questions and no direction as a parameter: a caller asks one way, and each way has its own arithmetic.
     /// The nearest rung upward from `p`, `p` included.
     fn at_or_above(&self, p: u32) -> Option<u32>
         ensures { Lowest (rungs self.now) p result };
@@ -24,20 +25,21 @@ pub trait Ladder {
 }
 
 /// A ladder that is lent answers as itself.
+// Each question is passed on by itself: Rust has no shorter form.
 impl<L: Ladder> Ladder for &L {
     ghost rungs = { λ s. L.Ladder.rungs s.now };
 
     ghost priced = { λ s. L.Ladder.priced s.now };
 
     fn is_rung(&self, p: u32) -> bool {
-        (**self).is_rung(p)
+        L::is_rung(self, p)
     }
 
     fn at_or_above(&self, p: u32) -> Option<u32> {
-        (**self).at_or_above(p)
+        L::at_or_above(self, p)
     }
 
     fn at_or_below(&self, p: u32) -> Option<u32> {
-        (**self).at_or_below(p)
+        L::at_or_below(self, p)
     }
 }

@@ -1,12 +1,10 @@
--- The average of prices lies between them, and is the nearest whole number. Assumes nothing.
-use Rattle.std.proofs.Common.{◌≡◌, ℕ, ◌+◌, ◌*◌, ◌<◌, ◌≤◌, Some, None, Option, ⊎_elim, mul-le-mul_right, mod-lt, div-lt_iff_lt-mul, add-mul, div-add-mod', le-div_iff_mul-le, mul-add, mul_left_comm, arith}
-use Rattle.std.proofs.lemmas.Bool.{cases_lt}
+-- The average of prices lies between them. Assumes nothing.
+use Rattle.std.proofs.Common.{ℕ, ◌+◌, ◌*◌, ◌<◌, ◌≤◌, Some, None, Option, mul-le-mul_right, div-lt_iff_lt-mul, add-mul, le-div_iff_mul-le, mul-add, mul_left_comm, arith}
 use Rattle.terms.specs.declared.trade.Trade.{Trade}
 use Rattle.terms.specs.Prices.{within_ends}
 use Rattle.terms.specs.Trades.{shares_of, turnover_of}
 use Rattle.sheet.specs.Periods.{PricedIn}
 use Rattle.sheet.specs.Sheets.{average}
-use Rattle.sheet.specs.Laws.{NearestAverage}
 
 pub record Between (low high n : ℕ) : Type 0 where
   pub least : low ≤ n
@@ -19,34 +17,6 @@ average_between low high turnover shares some least most =
     let at_high = mul_left_comm high 2 shares in
     let below : average turnover shares < high + 1 = (div-lt_iff_lt-mul twice).1 (omega (arith, add-mul high 1 (2 * shares))) in
     record { least = (le-div_iff_mul-le twice).1 (omega arith); most = omega arith }
-
--- and no whole number is nearer
-pub nearest_average : NearestAverage
-nearest_average turnover shares k some =
-    let twice : 0 < 2 * shares = omega arith in
-    let whole = div-add-mod' (2 * turnover + shares) (2 * shares) in
-    let rest = mod-lt (2 * turnover + shares) twice in
-    let at = mul_left_comm (average turnover shares) 2 shares in
-    let low : 2 * (average turnover shares * shares) ≤ 2 * turnover + shares = omega arith in
-    let high : 2 * turnover < 2 * (average turnover shares * shares) + shares = omega arith in
-    ⊎_elim
-    (λ (lt : k < average turnover shares).
-    let under : k + 1 ≤ average turnover shares = omega arith in
-    let apart = mul-le-mul_right shares under in
-    let sum = add-mul k 1 shares in
-    (omega arith, λ e. omega arith))
-    (λ (ge : average turnover shares ≤ k).
-    ⊎_elim
-    (λ (lt : average turnover shares < k).
-    let over : average turnover shares + 1 ≤ k = omega arith in
-    let apart = mul-le-mul_right shares over in
-    let sum = add-mul (average turnover shares) 1 shares in
-    (omega arith, λ e. absurd (omega arith)))
-    (λ (le : k ≤ average turnover shares).
-    let same : k ≡ average turnover shares = omega arith in
-    (rw same (omega arith), λ e. le))
-    (cases_lt (average turnover shares) k))
-    (cases_lt k (average turnover shares))
 
 -- trades from low to high keep the turnover between so much a share
 pub record Bounded (low high volume turnover : ℕ) : Type 0 where
@@ -68,3 +38,7 @@ trade_bounded low high volume turnover (Some trade) priced b =
 pub trade_priced : (trade : Option Trade) → PricedIn 1 1000000000 trade
 trade_priced None = tt
 trade_priced (Some trade) = within_ends 1 1000000000 trade.price trade.valid
+
+-- so no share costs more than the highest
+pub turnover_most : (t : Trade) → t.price * t.shares ≤ 1000000000 * t.shares
+turnover_most t = mul-le-mul_right t.shares (trade_priced (Some t)).1

@@ -1,5 +1,5 @@
 -- The close of intermediate periods, one after the other. Assumes nothing.
-use Rattle.std.proofs.Common.{◌≡◌, ℕ, zero, suc, ◌+◌, ◌-◌, ◌<◌, ◌≤◌, replicate, sym, refl, ap, ◌∙◌, arith}
+use Rattle.std.proofs.Common.{◌≡◌, ℕ, zero, suc, ◌+◌, ◌-◌, ◌<◌, ◌≤◌, replicate, refl, ap, ◌∙◌, arith}
 use Rattle.sheet.specs.declared.gate.Gate.{Gate}
 use Rattle.sheet.specs.declared.gate.Gate.TheVariants.{One, Two, Three}
 use Rattle.sheet.specs.declared.thresholds.Terms.{Terms}
@@ -27,18 +27,12 @@ start_stays Three terms s = refl
 pub first_close : (terms : Terms) (s t : Sheet) (to at : ℕ) → at < to → t ≡ next terms s IntermediateClose → closes (to - (at + 1)) terms t ≡ closes (to - at) terms s
 first_close terms s t to at lt is =
     let one : to - at ≡ suc (to - (at + 1)) = omega arith in
-    ap (closes (to - (at + 1)) terms) is ∙ sym (ap (λ n. closes n terms s) one)
-
-pub one≢three : One ≡ Three → ⊥
-one≢three e = let z : ◌≡◌ {A = ℕ} 0 1 = cc in omega arith
-
-pub two≢three : Two ≡ Three → ⊥
-two≢three e = let z : ◌≡◌ {A = ℕ} 0 1 = cc in omega arith
+    rw (one, is)
 
 -- a close outside Gate 3
 pub close_is : (gate : Gate) (terms : Terms) (s : Sheet) → s.gate ≡ gate → (gate ≡ Three → ⊥) → next terms s IntermediateClose ≡ closed terms s
-close_is One terms s is other = ap (λ g. next_in g IntermediateClose terms s) is
-close_is Two terms s is other = ap (λ g. next_in g IntermediateClose terms s) is
+close_is One terms s is other = rw is
+close_is Two terms s is other = rw is
 close_is Three terms s is other = absurd (other refl)
 
 -- n closes outside Gate 3 lead n further, and gate and start stay

@@ -1,6 +1,6 @@
 -- The intermediate period stays the one of the last date opened. Assumes nothing.
-use Rattle.std.proofs.Common.{◌≡◌, ℕ, ◌+◌, ◌-◌, ◌/◌, ◌<◌, ◌≤◌, true, ◌&&◌, eqb, ltb, leb, Some, None, Option, refl, ap, ◌∙◌, ⊎_elim, arith}
-use Rattle.std.proofs.lemmas.Bool.{cond_both, and_parts, and_from, leb-true, ltb-true, eqb-true, le-leb, lt-ltb, eq-eqb, false≢true, cases_lt}
+use Rattle.std.proofs.Common.{◌≡◌, ℕ, ◌+◌, ◌-◌, ◌/◌, ◌<◌, ◌≤◌, true, Some, None, Option, refl, ap, ◌∙◌, ⊎_elim, arith}
+use Rattle.std.proofs.lemmas.Bool.{cond_both, ltb-true, false≢true, cases_lt}
 use Rattle.std.proofs.lemmas.Bool.Decides.{nat_tests}
 use Rattle.terms.specs.declared.date.Date.{Date}
 use Rattle.terms.specs.declared.trade.Trade.{Trade}
@@ -10,12 +10,12 @@ use Rattle.sheet.specs.declared.gate.Gate.{Gate}
 use Rattle.sheet.specs.declared.gate.Gate.TheVariants.{One, Two, Three}
 use Rattle.sheet.specs.declared.thresholds.Terms.{Terms}
 use Rattle.sheet.specs.declared.sheet.Sheet.{Sheet}
-use Rattle.sheet.specs.declared.event.Event.TheVariants.{Opening, TimeEnd}
+use Rattle.sheet.specs.declared.event.Event.TheVariants.{TimeEnd}
 use Rattle.sheet.specs.Gates.{lasts}
 use Rattle.sheet.specs.Sheets.{is_over, ended, added, next, opened, posted}
 use Rattle.sheet.specs.Sounds.{current_from, is_current, is_later}
-use Rattle.sheet.proofs.Closing.{closes, closes_move, one≢three, two≢three}
-use Rattle.sheet.proofs.Opening.{opened_from, opened_late, opened_early}
+use Rattle.sheet.proofs.Closing.{closes, closes_move}
+use Rattle.sheet.proofs.Opening.{opened_late, opened_early}
 
 -- a period that starts today is in its first
 at_least : (gate : Gate) → 2 ≤ lasts gate
@@ -44,10 +44,10 @@ record Reached (to : ℕ) (s t : Sheet) : Type 0 where
 
 reaches : (gate : Gate) (terms : Terms) (s : Sheet) (m was : ℕ) → s.gate ≡ gate → m < lasts gate → was ≤ m → s.intermediate ≡ was / 2 + 1 → Reached (m / 2 + 1) s (closes (m / 2 + 1 - s.intermediate) terms s)
 reaches One terms s m was is early grown at =
-    let moved = closes_move (m / 2 + 1 - s.intermediate) terms s One is (λ e. one≢three e) in
+    let moved = closes_move (m / 2 + 1 - s.intermediate) terms s One is (λ e. cc) in
     record { gate = moved.gate; start = moved.start; intermediate = moved.intermediate ∙ omega arith }
 reaches Two terms s m was is early grown at =
-    let moved = closes_move (m / 2 + 1 - s.intermediate) terms s Two is (λ e. two≢three e) in
+    let moved = closes_move (m / 2 + 1 - s.intermediate) terms s Two is (λ e. cc) in
     record { gate = moved.gate; start = moved.start; intermediate = moved.intermediate ∙ omega arith }
 reaches Three terms s m was is early grown at =
     let none : m / 2 + 1 - s.intermediate ≡ 0 = omega arith in
@@ -65,57 +65,26 @@ record Running (start last : Date) (gate : Gate) (intermediate : ℕ) : Type 0 w
   at : intermediate ≡ whole_months start.number last.number / 2 + 1
 
 running : (start last : Date) (gate : Gate) (intermediate : ℕ) → current_from (Some start) (Some last) gate intermediate ≡ true → Running start last gate intermediate
-running start last gate intermediate h =
-    let m = whole_months start.number last.number in
-    let parts = and_parts (leb start.number last.number && ltb m (lasts gate)) (eqb intermediate (m / 2 + 1)) h in
-    let left = and_parts (leb start.number last.number) (ltb m (lasts gate)) parts.0 in
-    record {
-      order = leb-true start.number last.number left.0;
-      early = ltb-true m (lasts gate) left.1;
-      at = eqb-true intermediate (m / 2 + 1) parts.1;
-    }
+running start last gate intermediate h = record { order = grind (arith, nat_tests); early = grind (arith, nat_tests); at = grind (arith, nat_tests) }
 
 runs : (start last : Date) (gate : Gate) (intermediate : ℕ) → Running start last gate intermediate → current_from (Some start) (Some last) gate intermediate ≡ true
-runs start last gate intermediate run =
-    let m = whole_months start.number last.number in
-    and_from (leb start.number last.number && ltb m (lasts gate)) (eqb intermediate (m / 2 + 1))
-    (and_from (leb start.number last.number) (ltb m (lasts gate)) (le-leb start.number last.number run.order) (lt-ltb m (lasts gate) run.early))
-    (eq-eqb intermediate (m / 2 + 1) run.at)
+runs start last gate intermediate run = grind (arith, nat_tests)
 
--- the test of a sheet whose parts are known
-current_at : (t : Sheet) (start last : Option Date) (gate : Gate) (intermediate : ℕ) → t.start ≡ start → t.gate ≡ gate → t.intermediate ≡ intermediate → current_from start last gate intermediate ≡ true → current_from t.start last t.gate t.intermediate ≡ true
-current_at t start last gate intermediate is-start is-gate is-intermediate h = (λ i. current_from (is-start i) last (is-gate i) (is-intermediate i)) ∙ h
-
-opened_running : (terms : Terms) (s : Sheet) (start last date : Date) → s.start ≡ Some start → Running start last s.gate s.intermediate → last.number < date.number → current_from (opened terms s date).start (Some date) (opened terms s date).gate (opened terms s date).intermediate ≡ true
+opened_running : (terms : Terms) (s : Sheet) (start last date : Date) → s.start ≡ Some start → Running start last s.gate s.intermediate → last.number < date.number → is_current (opened terms s date) (Some date) ≡ true
+unfolding is_current
 opened_running terms s start last date is run later =
     let m = whole_months start.number date.number in
     ⊎_elim
     (λ (early : m < lasts s.gate).
-    let e = opened_early terms s start date is early in
     let grown = months_grow start.number last.number date.number last.valid date.valid (omega arith) in
     let r = reaches s.gate terms s m (whole_months start.number last.number) refl early grown run.at in
-    current_at (opened terms s date) (Some start) (Some date) s.gate (m / 2 + 1)
-    (ap (λ (t : Sheet). t.start) e ∙ r.start ∙ is)
-    (ap (λ (t : Sheet). t.gate) e ∙ r.gate)
-    (ap (λ (t : Sheet). t.intermediate) e ∙ r.intermediate)
-    (runs start date s.gate (m / 2 + 1) (record { order = omega arith; early = early; at = refl })))
-    (λ (late : lasts s.gate ≤ m).
-    let e = opened_late terms s start date is late in
-    current_at (opened terms s date) (Some date) (Some date) (next terms s (TimeEnd date)).gate 1
-    (ap (λ (t : Sheet). t.start) e)
-    (ap (λ (t : Sheet). t.gate) e)
-    (ap (λ (t : Sheet). t.intermediate) e)
-    (today date (next terms s (TimeEnd date)).gate))
+    rw (opened_early terms s start date is early, r.start, r.gate, r.intermediate, is) (runs start date s.gate (m / 2 + 1) (record { order = omega arith; early = early; at = refl })))
+    (λ (late : lasts s.gate ≤ m). rw (opened_late terms s start date is late) (today date (next terms s (TimeEnd date)).gate))
     (cases_lt m (lasts s.gate))
 
-opened_from_lem : (start last : Option Date) (terms : Terms) (s : Sheet) (date : Date) → s.start ≡ start → current_from start last s.gate s.intermediate ≡ true → is_later last date ≡ true → current_from (opened terms s date).start (Some date) (opened terms s date).gate (opened terms s date).intermediate ≡ true
-opened_from_lem None last terms s date is h later =
-    let e : opened terms s date ≡ next terms s (Opening date) = ap (λ o. opened_from o terms s date) is in
-    current_at (opened terms s date) (Some date) (Some date) s.gate 1
-    (ap (λ (t : Sheet). t.start) e)
-    (ap (λ (t : Sheet). t.gate) e)
-    (ap (λ (t : Sheet). t.intermediate) e)
-    (today date s.gate)
+opened_from_lem : (start last : Option Date) (terms : Terms) (s : Sheet) (date : Date) → s.start ≡ start → current_from start last s.gate s.intermediate ≡ true → is_later last date ≡ true → is_current (opened terms s date) (Some date) ≡ true
+unfolding is_current
+opened_from_lem None last terms s date is h later = rw is (today date s.gate)
 opened_from_lem (Some start) None terms s date is h later = absurd (false≢true h)
 opened_from_lem (Some start) (Some last) terms s date is h later =
     opened_running terms s start last date is (running start last s.gate s.intermediate h) (ltb-true last.number date.number later)

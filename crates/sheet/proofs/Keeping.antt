@@ -1,6 +1,6 @@
 -- Every event keeps what is true of a sheet. Assumes nothing.
-use Rattle.std.proofs.Common.{◌≡◌, ℕ, ◌+◌, ◌-◌, ◌*◌, ◌/◌, ◌%◌, ◌<◌, ◌≤◌, Bool, true, false, cond, not, ◌&&◌, ◌||◌, eqb, ltb, leb, ◌⊎◌, is_some, Some, None, Option, sym, refl, ap, ◌∙◌, inl, inr, ⊎_elim, mul-le-mul_right, arith}
-use Rattle.std.proofs.lemmas.Bool.{cond_both, leb-false, lt-leb, eqb-false, and_parts, and_from, or_cases, or_left, or_right, leb-true, ltb-true, eqb-true, true≢false, false≢true}
+use Rattle.std.proofs.Common.{◌≡◌, ℕ, ◌+◌, ◌*◌, ◌<◌, ◌≤◌, Bool, true, false, cond, ◌&&◌, ◌||◌, eqb, ◌⊎◌, is_some, Some, None, Option, sym, refl, ap, ◌∙◌, inl, inr, mul-le-mul_right, arith}
+use Rattle.std.proofs.lemmas.Bool.{cond_both, leb-false, lt-leb, eqb-false, and_parts, and_from, eqb-true, true≢false, false≢true}
 use Rattle.std.proofs.lemmas.Bool.Decides.{nat_tests}
 use Rattle.terms.specs.declared.date.Date.{Date}
 use Rattle.terms.specs.declared.trade.Trade.{Trade}
@@ -21,7 +21,6 @@ use Rattle.sheet.specs.Foundings.{terms_in_range, sheet_in_range, terms_of, foun
 use Rattle.sheet.specs.Laws.{AtMost28}
 use Rattle.sheet.specs.Sounds.{is_choice, fits, sums, widened_from, limits, begins, is_sound, Due}
 use Rattle.sheet.proofs.Averages.{average_between, trade_bounded, trade_priced}
-use Rattle.sheet.proofs.Closing.{one≢three, two≢three}
 
 -- what the test says, as facts
 pub record Fit (terms : Terms) : Type 0 where
@@ -45,41 +44,26 @@ pub record Sound (terms : Terms) (s : Sheet) : Type 0 where
 fit : (terms : Terms) → fits terms ≡ true → Fit terms
 fit terms h = record { choice = grind (arith, nat_tests); some = grind (arith, nat_tests); most = grind (arith, nat_tests) }
 
-sums_facts : (ends : Bool) (volume turnover recent reference : ℕ) → (not ends && within volume (1000000000 * volume) turnover && leb recent volume && is_price reference) ≡ true → Sums ends volume turnover recent reference
-sums_facts true volume turnover recent reference h = absurd (false≢true h)
-sums_facts false volume turnover recent reference h =
-    record {
-      running = refl;
-      cheapest = grind (arith, nat_tests);
-      dearest = grind (arith, nat_tests);
-      part = grind (arith, nat_tests);
-      price = (grind (arith, nat_tests), grind (arith, nat_tests));
-    }
-
-sums_tested : (ends : Bool) (volume turnover recent reference : ℕ) → Sums ends volume turnover recent reference → (not ends && within volume (1000000000 * volume) turnover && leb recent volume && is_price reference) ≡ true
-sums_tested true volume turnover recent reference sums = absurd (true≢false sums.running)
-sums_tested false volume turnover recent reference sums = grind (arith, nat_tests)
-
 facts : (terms : Terms) (s : Sheet) → is_sound terms s ≡ true → Sound terms s
 unfolding is_sound
 facts terms s h =
     let parts = and_parts (fits terms && sums terms s && limits s.gate s.limit s.intermediate) (begins s.start s.intermediate) h in
-    let left = and_parts (fits terms && sums terms s) (limits s.gate s.limit s.intermediate) parts.0 in
-    let first = and_parts (fits terms) (sums terms s) left.0 in
     record {
-      fits = first.0;
-      sums = sums_facts (is_over terms s) s.volume s.turnover s.recent s.reference first.1;
-      limits = left.1;
+      fits = grind (arith, nat_tests);
+      sums = record {
+        running = grind (arith, nat_tests);
+        cheapest = grind (arith, nat_tests);
+        dearest = grind (arith, nat_tests);
+        part = grind (arith, nat_tests);
+        price = (grind (arith, nat_tests), grind (arith, nat_tests));
+      };
+      limits = (and_parts (fits terms && sums terms s) (limits s.gate s.limit s.intermediate) parts.0).1;
       begins = parts.1;
     }
 
 tested : (terms : Terms) (s : Sheet) → Sound terms s → is_sound terms s ≡ true
 unfolding is_sound
-tested terms s sound =
-    let all = sums_tested (is_over terms s) s.volume s.turnover s.recent s.reference sound.sums in
-    and_from (fits terms && sums terms s && limits s.gate s.limit s.intermediate) (begins s.start s.intermediate)
-    (and_from (fits terms && sums terms s) (limits s.gate s.limit s.intermediate) (and_from (fits terms) (sums terms s) sound.fits all) sound.limits)
-    sound.begins
+tested terms s sound = grind (arith, nat_tests)
 
 -- reference thresholds, whatever the gate
 pub record Threshold (t : ℕ) : Type 0 where
@@ -113,68 +97,28 @@ none : (terms : Terms) (gate : Gate) → Fit terms → reached terms (reference_
 none terms gate fit = unreached terms (reference_in gate terms) fit (threshold terms gate fit).some
 
 -- a widened limit: how wide at most, and as wide or 4 wider in the next intermediate period
-from_most : (first limit intermediate : ℕ) → first ≤ 8 → intermediate ≤ 6 → widened_from first limit intermediate ≡ true → limit ≤ 28
-from_most first limit intermediate low last h =
-    let parts = and_parts (leb first limit && eqb ((limit - first) % 4) 0) (ltb ((limit - first) / 4) intermediate) h in
-    let left = and_parts (leb first limit) (eqb ((limit - first) % 4) 0) parts.0 in
-    let a = leb-true first limit left.0 in
-    let b = eqb-true ((limit - first) % 4) 0 left.1 in
-    let c = ltb-true ((limit - first) / 4) intermediate parts.1 in
-    omega arith
+limit_most : (gate : Gate) (limit intermediate : ℕ) → limits gate limit intermediate ≡ true → limit ≤ 28
+limit_most One limit intermediate h = grind (arith, nat_tests)
+limit_most Two limit intermediate h = grind (arith, nat_tests)
+limit_most Three limit intermediate h = grind (arith, nat_tests)
+
+from_wider : (first limit intermediate wider : ℕ) → (wider ≡ 0) ⊎ (wider ≡ 4) → widened_from first limit intermediate ≡ true → widened_from first (limit + wider) (intermediate + 1) ≡ true
+from_wider first limit intermediate wider by h = grind (arith, nat_tests)
 
 -- any of the three beginnings
 abbrev widened : ℕ → ℕ → Bool
 widened limit intermediate = widened_from 8 limit intermediate || widened_from 6 limit intermediate || widened_from 4 limit intermediate
 
-widened_most : (limit intermediate : ℕ) → intermediate ≤ 6 → widened limit intermediate ≡ true → limit ≤ 28
-widened_most limit intermediate last h =
-    ⊎_elim
-    (λ e.
-    ⊎_elim
-    (from_most 8 limit intermediate (omega arith) last)
-    (from_most 6 limit intermediate (omega arith) last)
-    (or_cases (widened_from 8 limit intermediate) (widened_from 6 limit intermediate) e))
-    (from_most 4 limit intermediate (omega arith) last)
-    (or_cases (widened_from 8 limit intermediate || widened_from 6 limit intermediate) (widened_from 4 limit intermediate) h)
-
--- the two parts of the test outside Gate 3
-six : (intermediate : ℕ) → within 1 6 intermediate ≡ true → intermediate ≤ 6
-six intermediate h = (within_ends 1 6 intermediate h).1
-
-limit_most : (gate : Gate) (limit intermediate : ℕ) → limits gate limit intermediate ≡ true → limit ≤ 28
-limit_most One limit intermediate h =
-    let parts = and_parts (within 1 6 intermediate) (widened_from 8 limit intermediate) h in
-    from_most 8 limit intermediate (omega arith) (six intermediate parts.0) parts.1
-limit_most Two limit intermediate h =
-    let parts = and_parts (within 1 6 intermediate) (widened limit intermediate) h in
-    widened_most limit intermediate (six intermediate parts.0) parts.1
-limit_most Three limit intermediate h =
-    let is = eqb-true limit 8 (and_parts (eqb intermediate 1) (eqb limit 8) h).1 in
-    omega arith
-
-from_wider : (first limit intermediate wider : ℕ) → (wider ≡ 0) ⊎ (wider ≡ 4) → widened_from first limit intermediate ≡ true → widened_from first (limit + wider) (intermediate + 1) ≡ true
-from_wider first limit intermediate wider by h = grind (arith, nat_tests)
-
 -- what follows from each of three tests, of the next three
 any_of_three : (a b c a' b' c' : Bool) → (a ≡ true → a' ≡ true) → (b ≡ true → b' ≡ true) → (c ≡ true → c' ≡ true) → (a || b || c) ≡ true → (a' || b' || c') ≡ true
-any_of_three a b c a' b' c' on-a on-b on-c h =
-    ⊎_elim
-    (λ e. or_left (a' || b') c' (⊎_elim (λ x. or_left a' b' (on-a x)) (λ y. or_right a' b' (on-b y)) (or_cases a b e)))
-    (λ z. or_right (a' || b') c' (on-c z))
-    (or_cases (a || b) c h)
+any_of_three a b c a' b' c' on-a on-b on-c h = grind arith
 
 -- a close in Gate 1 or 2
-next_within : (intermediate : ℕ) → intermediate < 6 → within 1 6 (intermediate + 1) ≡ true
-next_within intermediate due = grind (arith, nat_tests)
-
 closed_limits : (gate : Gate) (limit intermediate wider : ℕ) → (gate ≡ Three → ⊥) → limits gate limit intermediate ≡ true → intermediate < 6 → (wider ≡ 0) ⊎ (wider ≡ 4) → limits gate (limit + wider) (intermediate + 1) ≡ true
-closed_limits One limit intermediate wider other h due by =
-    let next = intermediate + 1 in
-    and_from (within 1 6 next) (widened_from 8 (limit + wider) next) (next_within intermediate due)
-    (from_wider 8 limit intermediate wider by (and_parts (within 1 6 intermediate) (widened_from 8 limit intermediate) h).1)
+closed_limits One limit intermediate wider other h due by = grind (arith, nat_tests, from_wider)
 closed_limits Two limit intermediate wider other h due by =
     let next = intermediate + 1 in
-    and_from (within 1 6 next) (widened (limit + wider) next) (next_within intermediate due)
+    and_from (within 1 6 next) (widened (limit + wider) next) (grind (arith, nat_tests))
     (any_of_three (widened_from 8 limit intermediate) (widened_from 6 limit intermediate) (widened_from 4 limit intermediate) (widened_from 8 (limit + wider) next) (widened_from 6 (limit + wider) next) (widened_from 4 (limit + wider) next)
     (from_wider 8 limit intermediate wider by) (from_wider 6 limit intermediate wider by) (from_wider 4 limit intermediate wider by)
     (and_parts (within 1 6 intermediate) (widened limit intermediate) h).1)
@@ -212,13 +156,7 @@ abbrev Fresh : Gate × ℕ → Type 0
 Fresh grade = limits grade.0 grade.1 1 ≡ true
 
 earned_fresh : (terms : Terms) (volume : ℕ) → Fresh (earned terms volume)
-earned_fresh terms volume =
-    cond_both (reached terms 1200 volume) (Two, 4) (cond (reached terms 1000 volume) (Two, 6) (cond (reached terms 800 volume) (Two, 8) (One, 8))) Fresh
-    (λ e. refl)
-    (λ e.
-    cond_both (reached terms 1000 volume) (Two, 6) (cond (reached terms 800 volume) (Two, 8) (One, 8)) Fresh
-    (λ e. refl)
-    (λ e. cond_both (reached terms 800 volume) (Two, 8) (One, 8) Fresh (λ e. refl) (λ e. refl)))
+earned_fresh terms volume = grind (arith, nat_tests)
 
 grade_fresh : (gate : Gate) (terms : Terms) (volume : ℕ) → Fresh (grade_after gate terms volume)
 grade_fresh One terms volume = earned_fresh terms volume
@@ -292,8 +230,8 @@ closed_sound terms s sound other runs due =
     }
 
 close_sound : (gate : Gate) (terms : Terms) (s : Sheet) → s.gate ≡ gate → Sound terms s → is_some s.start ≡ true → s.intermediate < 6 → Sound terms (next_in gate IntermediateClose terms s)
-close_sound One terms s is sound runs due = closed_sound terms s sound (λ e. one≢three (sym is ∙ e)) runs due
-close_sound Two terms s is sound runs due = closed_sound terms s sound (λ e. two≢three (sym is ∙ e)) runs due
+close_sound One terms s is sound runs due = closed_sound terms s sound (λ e. cc) runs due
+close_sound Two terms s is sound runs due = closed_sound terms s sound (λ e. cc) runs due
 close_sound Three terms s is sound runs due = sound
 
 next_keeps : (terms : Terms) (s : Sheet) (event : Event) → Sound terms s → Due s event → Sound terms (next terms s event)

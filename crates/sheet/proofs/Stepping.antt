@@ -1,5 +1,6 @@
 -- Openings on several dates of a period, and on the last alone. Assumes nothing.
 use Rattle.std.proofs.Common.{◌≡◌, ℕ, zero, suc, ◌+◌, ◌-◌, ◌/◌, ◌<◌, ◌≤◌, true, leb, List, [], ◌∷◌, Some, sym, refl, ap, ◌∙◌, zero-add, arith}
+use Rattle.std.proofs.lemmas.Bool.Decides.{nat_tests}
 use Rattle.std.proofs.lemmas.Bool.{and_parts, leb-true}
 use Rattle.terms.specs.declared.date.Date.{Date}
 use Rattle.terms.specs.Dates.{whole_months}
@@ -13,7 +14,7 @@ use Rattle.sheet.specs.Gates.{lasts}
 use Rattle.sheet.specs.Sheets.{next_in, next, opened}
 use Rattle.sheet.specs.Periods.{ascend_to}
 use Rattle.sheet.specs.Laws.{OneOrSeveral}
-use Rattle.sheet.proofs.Closing.{closes, closes_move, one≢three, two≢three}
+use Rattle.sheet.proofs.Closing.{closes, closes_move}
 use Rattle.sheet.proofs.Opening.{opened_early}
 
 -- closes add up
@@ -49,8 +50,8 @@ moving gate i j terms s is other le =
     }
 
 twice : (gate : Gate) (i j : ℕ) (terms : Terms) (s : Sheet) → s.gate ≡ gate → i ≤ j → Twice i j terms s
-twice One i j terms s is le = moving One i j terms s is one≢three le
-twice Two i j terms s is le = moving Two i j terms s is two≢three le
+twice One i j terms s is le = moving One i j terms s is (λ e. cc) le
+twice Two i j terms s is le = moving Two i j terms s is (λ e. cc) le
 twice Three i j terms s is le =
     let same = closes_none (i - s.intermediate) terms s is in
     record {
@@ -84,9 +85,8 @@ first_order : (date : Date) (dates : List Date) (last : Date) → ascend_to (dat
 first_order date [] last h = (leb-true date.number last.number h, refl)
 first_order date (then ∷ dates) last h =
     let parts = and_parts (leb date.number then.number) (ascend_to (then ∷ dates) last) h in
-    let step = leb-true date.number then.number parts.0 in
     let more = (first_order then dates last parts.1).0 in
-    (omega arith, parts.1)
+    (grind (arith, nat_tests), parts.1)
 
 pub one_or_several : OneOrSeveral
 one_or_several terms s start [] last is order early = refl

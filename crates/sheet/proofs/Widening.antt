@@ -1,6 +1,7 @@
 -- How far openings widen the limit. Assumes nothing.
-use Rattle.std.proofs.Common.{◌≡◌, ℕ, zero, suc, ◌+◌, ◌-◌, ◌*◌, ◌/◌, ◌<◌, Bool, true, false, cond, List, [], ◌∷◌, None, sym, refl, ap, ◌∙◌, arith}
-use Rattle.std.proofs.lemmas.Bool.{cond-true, cond-false, or_parts, le-leb, true≢false}
+use Rattle.std.proofs.Common.{◌≡◌, ℕ, zero, suc, ◌+◌, ◌-◌, ◌*◌, ◌/◌, ◌<◌, Bool, true, false, cond, List, [], ◌∷◌, sym, refl, ap, ◌∙◌, arith}
+use Rattle.std.proofs.lemmas.Bool.Decides.{nat_tests}
+use Rattle.std.proofs.lemmas.Bool.{or_parts, true≢false}
 use Rattle.terms.specs.Dates.{whole_months}
 use Rattle.sheet.specs.declared.gate.Gate.{Gate}
 use Rattle.sheet.specs.declared.gate.Gate.TheVariants.{One, Two, Three}
@@ -10,11 +11,11 @@ use Rattle.sheet.specs.declared.event.Event.{Event}
 use Rattle.sheet.specs.declared.event.Event.TheVariants.{Opening, TimeEnd, IntermediateClose, Posting}
 use Rattle.sheet.specs.Gates.{lasts}
 use Rattle.sheet.specs.Thresholds.{minimum_in, reached}
-use Rattle.sheet.specs.Sheets.{ended, added, is_over, closed, next_in, next, after}
+use Rattle.sheet.specs.Sheets.{closed, next_in, next, after}
 use Rattle.sheet.specs.Periods.{ends, ends_in, shares_in, traded, is_close, closes_in}
 use Rattle.sheet.specs.Sounds.{fits, is_sound}
 use Rattle.sheet.specs.Laws.{TooFewWiden, widenings, WidensOnce}
-use Rattle.sheet.proofs.Closing.{closes, close_is, one≢three, two≢three}
+use Rattle.sheet.proofs.Closing.{closes, close_is}
 use Rattle.sheet.proofs.Keeping.{no_minimum, first_only, sound_fits}
 use Rattle.sheet.proofs.Summing.{after_last}
 use Rattle.sheet.proofs.Opening.{opened_early}
@@ -29,13 +30,7 @@ quiet_event : (terms : Terms) (s : Sheet) (e : Event) → ends terms s e ≡ fal
 quiet_event terms s (Opening date) runs h = record { gate = refl; limit = refl; recent = omega arith }
 quiet_event terms s (TimeEnd date) runs h = absurd (true≢false runs)
 quiet_event terms s IntermediateClose runs h = absurd (true≢false h)
-quiet_event terms s (Posting trade) runs h =
-    let e = cond-false (is_over terms (added s trade)) (ended terms (added s trade) None) (added s trade) runs in
-    record {
-      gate = ap (λ (t : Sheet). t.gate) e;
-      limit = ap (λ (t : Sheet). t.limit) e;
-      recent = ap (λ (t : Sheet). t.recent) e;
-    }
+quiet_event terms s (Posting trade) runs h = rw runs (record { gate = refl; limit = refl; recent = refl })
 
 quiet_run : (terms : Terms) (s : Sheet) (es : List Event) → ends_in terms s es ≡ false → closes_in es ≡ false → Quiet s (after terms s es) (traded es)
 quiet_run terms s [] runs h = record { gate = refl; limit = refl; recent = omega arith }
@@ -50,10 +45,7 @@ quiet_run terms s (e ∷ es) runs h =
 close_limit : (gate : Gate) (terms : Terms) (s : Sheet) → s.gate ≡ gate → (next_in gate IntermediateClose terms s).limit ≡ s.limit + cond (reached terms (minimum_in s.gate terms) s.recent) 0 4
 close_limit One terms s is = refl
 close_limit Two terms s is = refl
-close_limit Three terms s is =
-    let none = ap (λ g. reached terms (minimum_in g terms) s.recent) is ∙ le-leb (0 * terms.circulation) (100000 * s.recent) (omega arith) in
-    let e = cond-true {A = ℕ} (reached terms (minimum_in s.gate terms) s.recent) 0 4 none in
-    omega (arith, e)
+close_limit Three terms s is = rw is (grind (arith, nat_tests))
 
 pub too_few_widen : TooFewWiden
 too_few_widen terms s es none runs h =
@@ -65,7 +57,7 @@ too_few_widen terms s es none runs h =
 -- an intermediate period without shares widens
 skipped : (terms : Terms) (s : Sheet) (n : ℕ) → reached terms (minimum_in s.gate terms) s.recent ≡ false → widenings terms s n ≡ n
 skipped terms s zero none = refl
-skipped terms s (suc n) none = let e = cond-false {A = ℕ} (reached terms (minimum_in s.gate terms) s.recent) 0 1 none in omega (arith, e)
+skipped terms s (suc n) none = rw none (omega arith)
 
 four : (b : Bool) → cond b 0 4 ≡ 4 * cond b 0 1
 four true = refl
@@ -82,8 +74,8 @@ closes_widen (suc n) terms s gate all is other =
     ap (λ (t : Sheet). (closes n terms t).limit) (close_is gate terms s is other) ∙ rest ∙ omega (arith, each, first)
 
 widens_in : (gate : Gate) (terms : Terms) (s : Sheet) (m : ℕ) → is_sound terms s ≡ true → s.gate ≡ gate → m < lasts gate → (closes (m / 2 + 1 - s.intermediate) terms s).limit ≡ s.limit + 4 * widenings terms s (m / 2 + 1 - s.intermediate)
-widens_in One terms s m sound is early = closes_widen (m / 2 + 1 - s.intermediate) terms s One (sound_fits terms s sound) is one≢three
-widens_in Two terms s m sound is early = closes_widen (m / 2 + 1 - s.intermediate) terms s Two (sound_fits terms s sound) is two≢three
+widens_in One terms s m sound is early = closes_widen (m / 2 + 1 - s.intermediate) terms s One (sound_fits terms s sound) is (λ e. cc)
+widens_in Two terms s m sound is early = closes_widen (m / 2 + 1 - s.intermediate) terms s Two (sound_fits terms s sound) is (λ e. cc)
 widens_in Three terms s m sound is early =
     let first = first_only terms s sound is in
     let none : m / 2 + 1 - s.intermediate ≡ 0 = omega arith in
@@ -91,4 +83,4 @@ widens_in Three terms s m sound is early =
 
 pub widens_once : WidensOnce
 widens_once terms s start date sound is early =
-    ap (λ (t : Sheet). t.limit) (opened_early terms s start date is early) ∙ widens_in s.gate terms s (whole_months start.number date.number) sound refl early
+    rw (opened_early terms s start date is early) (widens_in s.gate terms s (whole_months start.number date.number) sound refl early)

@@ -1,6 +1,6 @@
 -- What the definitions of the sheet amount to. Assumes nothing.
 use Rattle.std.specs.Prelude.{◌≡◌, ℕ, zero, suc, ◌+◌, ◌-◌, ◌*◌, ◌<◌, ◌≤◌, true, false, cond, List, [], ◌∷◌, ◌++◌, Some}
-use Rattle.std.specs.List.{AllByRecursion}
+use Rattle.std.specs.List.{All}
 use Rattle.terms.specs.declared.date.Date.{Date}
 use Rattle.terms.specs.Prices.{distance}
 use Rattle.terms.specs.Dates.{whole_months}
@@ -23,7 +23,7 @@ NearestAverage =
 -- the Reference Price after a period with shares lies between any two prices that all of its trades lie between
 abbrev pub AverageBetween : Type 0
 AverageBetween =
-    (terms : Terms) (s : Sheet) (events : List Event) (last : Event) (low high : ℕ) → Period terms s events last → AllByRecursion (Priced low high) (events ++ last ∷ []) → 0 < traded (events ++ last ∷ []) → (low ≤ (after terms s (events ++ last ∷ [])).reference) × ((after terms s (events ++ last ∷ [])).reference ≤ high)
+    (terms : Terms) (s : Sheet) (events : List Event) (last : Event) (low high : ℕ) → Period terms s events last → All (Priced low high) (events ++ last ∷ []) → 0 < traded (events ++ last ∷ []) → (low ≤ (after terms s (events ++ last ∷ [])).reference) × ((after terms s (events ++ last ∷ [])).reference ≤ high)
 
 -- where nothing is traded in a period, the Reference Price stays
 abbrev pub EmptyKeeps : Type 0

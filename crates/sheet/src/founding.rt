@@ -1,5 +1,4 @@
 ghost use Rattle.std.specs.Prelude.{◌≡◌};
-ghost use Rattle.terms.specs.Prices.{within};
 ghost use Rattle.terms.specs.Refusals.{Admitted};
 ghost use Rattle.sheet.specs.Foundings.{founded, sheet_in_range, terms_in_range, terms_of};
 ghost use Rattle.sheet.specs.Sounds.{is_choice};
@@ -8,7 +7,7 @@ use super::float::Float;
 use super::gate::Gate;
 use super::sheet::Sheet;
 use super::thresholds::Terms;
-use terms::{MAX_PRICE, Refusal};
+use terms::{MAX_PRICE, Refusal, admit};
 
 const MAX_CIRCULATION: u32 = 1_000_000_000;
 
@@ -18,6 +17,7 @@ const MAX_CAP: u32 = 100;
 const FIRST_LIMIT: u32 = 8;
 
 /// What a share is founded on, as it is handed in: any numbers.
+// Gate and float are numbers here too: they are judged when the share is listed, and a bad one is a refusal.
 #[derive(Clone, Copy)]
 pub struct FoundingSheet {
     /// From 1 to 3.
@@ -36,23 +36,12 @@ pub struct FoundingSheet {
     pub first: u64,
 }
 
-// The value, if it is from 1 to `most`.
-fn up_to(most: u32, value: u64) -> Result<u32, Refusal>
-    ensures { Admitted (within 1 most value) result (λ n. n ≡ value) }
-{
-    if 1 <= value && value <= u64::from(most) {
-        Ok(value as u32)
-    } else {
-        Err(Refusal::Parameter)
-    }
-}
-
 // The value, if it is a threshold that a bank may choose.
 fn choice(value: u64) -> Result<u32, Refusal>
     ensures { Admitted (is_choice value) result (λ n. n ≡ value) }
 {
-    match value {
-        1000 | 1200 | 1500 | 2000 | 2500 | 3000 => Ok(value as u32),
+    match u32::try_from(value) {
+        Ok(n @ (1000 | 1200 | 1500 | 2000 | 2500 | 3000)) => Ok(n),
         _ => Err(Refusal::Parameter),
     }
 }
@@ -63,11 +52,11 @@ impl FoundingSheet {
         ensures { Admitted (terms_in_range self) result (λ t. t ≡ terms_of self) }
     {
         Ok(Terms {
-            float: Float::new(self.float)?,
+            float: Float::try_from(self.float)?,
             choice: choice(self.choice)?,
-            circulation: up_to(MAX_CIRCULATION, self.circulation)?,
-            cap: up_to(MAX_CAP, self.cap)?,
-            first: up_to(u32::MAX, self.first)?,
+            circulation: admit(1, MAX_CIRCULATION, self.circulation)?,
+            cap: admit(1, MAX_CAP, self.cap)?,
+            first: admit(1, u32::MAX, self.first)?,
         })
     }
 
@@ -75,8 +64,8 @@ impl FoundingSheet {
     pub(crate) fn sheet(self) -> Result<Sheet, Refusal>
         ensures { Admitted (sheet_in_range self) result (λ s. s ≡ founded self) }
     {
-        let gate = Gate::new(self.gate)?;
-        let reference = up_to(MAX_PRICE, self.reference)?;
+        let gate = Gate::try_from(self.gate)?;
+        let reference = admit(1, MAX_PRICE, self.reference)?;
         Ok(Sheet::fresh(gate, FIRST_LIMIT, reference, None))
     }
 }

@@ -7,8 +7,9 @@ mod founding;
 mod gate;
 mod laws;
 mod listing;
-mod next;
 mod sheet;
+mod standing;
+mod tally;
 mod thresholds;
 
 pub use float::Float;

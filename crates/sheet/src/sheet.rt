@@ -5,7 +5,7 @@ use super::gate::Gate;
 use terms::Date;
 
 /// The period sheet: what the next call of a share rests on, and how its running period has gone so far.
-#[derive(Clone, Copy, PartialEq, Debug)]
+#[derive(Clone, Copy, PartialEq, Eq, Debug)]
 pub struct Sheet {
     pub gate: Gate,
     /// Limit 1, in percent.

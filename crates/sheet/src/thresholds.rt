@@ -1,5 +1,5 @@
 ghost use Rattle.std.specs.Prelude.{◌≡◌, ◌<◌};
-ghost use Rattle.sheet.specs.Thresholds.{eased, minimum_in, reached, reference_in};
+ghost use Rattle.sheet.specs.Thresholds.{minimum_in, reached, reference_in};
 
 use super::float::Float;
 use super::gate::Gate;
@@ -18,24 +18,13 @@ pub struct Terms {
     pub first: u32,
 }
 
-// What a float makes of a threshold.
-fn eased(float: Float, threshold: u32) -> u32
-    ensures { result ≡ eased float threshold }
-{
-    match float {
-        Float::AboveQuarter => threshold,
-        Float::AtMostQuarter => threshold / 2,
-        Float::AtMostTenth => threshold / 4,
-    }
-}
-
 impl Terms {
     // The threshold that ends a period.
     pub(crate) fn reference_in(&self, gate: Gate) -> u32
         ensures { result ≡ reference_in gate self.now }
     {
         match gate {
-            Gate::One => eased(self.float, 1000),
+            Gate::One => self.float.eased(1000),
             Gate::Two => self.choice,
             Gate::Three => 500,
         }
@@ -46,7 +35,7 @@ impl Terms {
         ensures { result ≡ minimum_in gate self.now }
     {
         match gate {
-            Gate::One => eased(self.float, 100),
+            Gate::One => self.float.eased(100),
             Gate::Two => 100,
             Gate::Three => 0,
         }

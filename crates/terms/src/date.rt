@@ -1,4 +1,4 @@
-ghost use Rattle.std.specs.Prelude.{◌≡◌, true, nat_lt};
+ghost use Rattle.std.specs.Prelude.{◌≡◌, true};
 ghost use Rattle.terms.specs.Dates.{days_in, is_date, month_count, whole_months};
 ghost use Rattle.terms.specs.Refusals.{Passed};
 ghost use Rattle.terms.specs.declared.refusal.Refusal.TheVariants.{InvalidDate};
@@ -6,7 +6,7 @@ ghost use Rattle.terms.specs.declared.refusal.Refusal.TheVariants.{InvalidDate};
 use super::refusal::Refusal;
 
 /// A day of the Gregorian calendar in the years 2000 to 2099.
-#[derive(Clone, Copy, PartialEq, Eq, Debug)]
+#[derive(Clone, Copy, PartialEq, Eq, PartialOrd, Ord, Debug)]
 pub struct Date {
     number: u32,
     ghost valid: { is_date number ≡ true },
@@ -29,37 +29,34 @@ fn days_in(year: u64, month: u64) -> u64
     }
 }
 
-impl Date {
+impl TryFrom<u64> for Date {
+    type Error = Refusal;
+
+    ghost try_from_gives = { λ number r. Passed InvalidDate (is_date number) r (λ d. d.number ≡ number) };
+
     /// The date that a number says: its year, then two digits for the month and two for the day.
-    pub fn new(number: u64) -> Result<Date, Refusal>
-        ensures { Passed InvalidDate (is_date number) result (λ d. d.number ≡ number) }
-    {
+    fn try_from(number: u64) -> Result<Date, Refusal> {
         let year = number / 10_000;
         let month = number / 100 % 100;
         let day = number % 100;
-        if year < 2000 || year > 2099 || month < 1 || month > 12 {
+        if !(2000..=2099).contains(&year) || !(1..=12).contains(&month) {
             return Err(Refusal::InvalidDate);
         }
-        if day < 1 || day > days_in(year, month) {
+        if !(1..=days_in(year, month)).contains(&day) {
             return Err(Refusal::InvalidDate);
         }
         Ok(Date {
             number: number as u32,
         })
     }
+}
 
+impl Date {
     /// The number that says this date.
     pub fn number(self) -> u32
         ensures { result ≡ self.number }
     {
         self.number
-    }
-
-    /// Whether this date comes after another.
-    pub fn is_after(self, other: Date) -> bool
-        ensures { result ≡ nat_lt other.number self.number }
-    {
-        other.number < self.number
     }
 
     /// How many whole months have passed since `start`; none if this date is the earlier one.

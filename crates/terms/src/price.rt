@@ -8,5 +8,5 @@ pub const MAX_PRICE: u32 = 1_000_000_000;
 pub fn is_price(n: u64) -> bool
     ensures { result ≡ is_price n }
 {
-    1 <= n && n <= u64::from(MAX_PRICE)
+    (1..=u64::from(MAX_PRICE)).contains(&n)
 }

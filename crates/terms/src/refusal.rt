@@ -5,31 +5,25 @@ ghost use Rattle.terms.specs.Refusals.{number_of};
 #[derive(Clone, Copy, PartialEq, Eq, Debug)]
 pub enum Refusal {
     /// A value of a ladder, a limit or a founding sheet lies outside its range.
-    Parameter,
+    Parameter = 2,
     /// A number is no date.
-    InvalidDate,
+    InvalidDate = 3,
     /// The order lines are not sound.
-    UnsoundLines,
+    UnsoundLines = 4,
     /// There are fewer fill records than used lines.
-    TooFewRecords,
+    TooFewRecords = 7,
     /// The date of an opening is not later than that of the one before.
-    NotLater,
+    NotLater = 11,
     /// Every line is in use.
-    NoFreeLine,
+    NoFreeLine = 14,
 }
 
-impl Refusal {
+// Written for each kind that has numbers: no derive makes it.
+impl From<Refusal> for u32 {
+    ghost from_gives = { λ why n. n ≡ number_of why };
+
     /// The number that a caller receives.
-    pub fn number(self) -> u32
-        ensures { result ≡ number_of self }
-    {
-        match self {
-            Refusal::Parameter => 2,
-            Refusal::InvalidDate => 3,
-            Refusal::UnsoundLines => 4,
-            Refusal::TooFewRecords => 7,
-            Refusal::NotLater => 11,
-            Refusal::NoFreeLine => 14,
-        }
+    fn from(why: Refusal) -> u32 {
+        why as u32
     }
 }

@@ -16,6 +16,7 @@ impl Trade {
     pub fn new(price: u32, shares: u32) -> Option<Trade>
         ensures { MatchOption result (is_price price ≡ false) (λ t. (is_price price ≡ true) × (t.price ≡ price) × (t.shares ≡ shares)) }
     {
+        // an `if`, since only its first arm knows that the price is one, as a trade has to
         if is_price(u64::from(price)) {
             Some(Trade { price, shares })
         } else {

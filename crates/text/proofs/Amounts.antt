@@ -1,12 +1,12 @@
 -- The reader of amounts and what a text says. Assumes nothing.
 use Rattle.std.proofs.Common.{◌≡◌, ℕ, ◌+◌, ◌-◌, ◌*◌, ◌^◌, ◌<◌, ◌≤◌, true, List, [], ◌∷◌, ◌++◌, length, IfSome, Some, None, Option, sym, refl, ap, ◌∙◌, subst, arith, MatchOption}
-use Rattle.std.specs.Option.{option_map}
+use Rattle.std.specs.Option.{option_map, option_and_then}
 use Rattle.std.specs.Str.Iter.{LacksByte}
 use Rattle.std.specs.Str.Parse.{digits_value}
 use Rattle.std.specs.Str.{all_ascii_digits}
 use Rattle.std.proofs.lemmas.List.{append-nil}
 use Rattle.std.proofs.lemmas.Str.Parse.{not_in_digits}
-use Rattle.text.specs.Euros.{digits, then, euros, euros_of, pointed, InEuros}
+use Rattle.text.specs.Euros.{digits, euros, euros_of, pointed, InEuros}
 use Rattle.text.specs.Splits.{split_once}
 use Rattle.text.proofs.Numbers.{Written, own, digits_read, digits_say}
 use Rattle.text.proofs.Splitting.{Parts, lacks_more, lacks_append, split_at, split_none, split_parts}
@@ -29,7 +29,7 @@ worth_read whole [] euro lacks all few =
     ap euros (append-nil whole) ∙ ap (euros_of whole) (split_none 46 whole lacks) ∙ ap (option_map (λ n. n * 10000)) euro ∙ ap Some worth
 worth_read whole (d ∷ ds) euro lacks all few =
     ap (euros_of (whole ++ 46 ∷ d ∷ ds)) (split_at 46 whole (d ∷ ds) lacks)
-    ∙ ap (λ (o : Option ℕ). then o (λ n. option_map (λ m. n * 10000 + m * 10 ^ (4 - length (d ∷ ds))) (digits 4 (d ∷ ds)))) euro
+    ∙ ap (option_and_then (λ n. option_map (λ m. n * 10000 + m * 10 ^ (4 - length (d ∷ ds))) (digits 4 (d ∷ ds)))) euro
     ∙ ap (option_map (λ m. digits_value 10 whole * 10000 + m * 10 ^ (4 - length (d ∷ ds)))) (digits_read 4 (d ∷ ds) (omega arith) few all)
 
 -- a text that says an amount is read
@@ -59,7 +59,7 @@ after_point : (ds : List ℕ) → 1 ≤ length ds → 46 ∷ ds ≡ pointed ds
 after_point [] some = absurd (omega arith)
 after_point (d ∷ ds) some = refl
 
-parts_say : (text whole decimals : List ℕ) (o p : Option ℕ) → text ≡ whole ++ 46 ∷ decimals → IfSome o (Written 6 whole) → IfSome p (Written 4 decimals) → IfSome (then o (λ n. option_map (λ m. n * 10000 + m * 10 ^ (4 - length decimals)) p)) (InEuros text)
+parts_say : (text whole decimals : List ℕ) (o p : Option ℕ) → text ≡ whole ++ 46 ∷ decimals → IfSome o (Written 6 whole) → IfSome p (Written 4 decimals) → IfSome (option_and_then (λ n. option_map (λ m. n * 10000 + m * 10 ^ (4 - length decimals)) p) o) (InEuros text)
 parts_say text whole decimals None p cut w d = tt
 parts_say text whole decimals (Some n) None cut w d = tt
 parts_say text whole decimals (Some n) (Some m) cut w d =

@@ -1,6 +1,6 @@
 -- Euros: amounts as decimal text, in ten-thousandths of a euro. Assumes nothing.
 use Rattle.std.specs.Prelude.{◌≡◌, ℕ, ◌+◌, ◌-◌, ◌*◌, ◌^◌, ◌≤◌, true, cond, ◌&&◌, List, [], ◌∷◌, ◌++◌, length, Some, None, Option, nat_le}
-use Rattle.std.specs.Option.{option_map}
+use Rattle.std.specs.Option.{option_map, option_and_then}
 use Rattle.std.specs.Str.Parse.{digits_value}
 use Rattle.std.specs.Str.{all_ascii_digits}
 use Rattle.text.specs.Splits.{split_once}
@@ -9,15 +9,10 @@ use Rattle.text.specs.Splits.{split_once}
 abbrev pub digits : ℕ → List ℕ → Option ℕ
 digits most ds = cond (nat_le 1 (length ds) && nat_le (length ds) most && all_ascii_digits ds) (Some (digits_value 10 ds)) None
 
--- goes on with what was read
-abbrev pub then : {X Y : Type 0} → Option X → (X → Option Y) → Option Y
-then None f = None
-then (Some x) f = f x
-
 -- whole euros alone, or whole euros and decimals
 abbrev pub euros_of : List ℕ → Option (List ℕ × List ℕ) → Option ℕ
 euros_of text None = option_map (λ whole. whole * 10000) (digits 6 text)
-euros_of text (Some p) = then (digits 6 p.0) (λ whole. option_map (λ part. whole * 10000 + part * 10 ^ (4 - length p.1)) (digits 4 p.1))
+euros_of text (Some p) = option_and_then (λ whole. option_map (λ part. whole * 10000 + part * 10 ^ (4 - length p.1)) (digits 4 p.1)) (digits 6 p.0)
 
 -- the ten-thousandths of a euro that a text says
 abbrev pub euros : List ℕ → Option ℕ

@@ -4,6 +4,7 @@ ghost use Rattle.text.specs.Euros.{InEuros, digits, euros};
 use crate::split::split_once;
 
 /// The ten-thousandths of a euro that a text of decimal euros says: 1 to 6 digits, and after them nothing, or a point and 1 to 4 digits.
+#[tactic(auto, using(crate::proofs::Amounts::amount_reads, crate::proofs::Amounts::amount_said))]
 pub fn read_euros(text: &[u8]) -> Option<u64>
     ensures value { result ≡ euros text.now }
     ensures says { MatchOption result ((n : ℕ) → InEuros text.now n → ⊥) (InEuros text.now) }
@@ -28,10 +29,7 @@ fn digits(text: &[u8], most: usize) -> Option<u64>
     }
     let mut value = 0;
     for byte in text {
-        if !byte.is_ascii_digit() {
-            return None;
-        }
-        value = value * 10 + u64::from(*byte - b'0');
+        value = value * 10 + u64::from(char::from(*byte).to_digit(10)?);
     }
     Some(value)
 }

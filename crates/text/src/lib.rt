@@ -1,4 +1,4 @@
-//! Text as bytes: cutting it at a byte, and amounts of euros written in it.
+//! Text as bytes, since any bytes may come: cutting it at a byte, and amounts of euros written in it.
 #![tactic(auto)]
 
 mod euros;

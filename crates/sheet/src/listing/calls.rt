@@ -8,87 +8,80 @@ ghost use Rattle.sheet.specs.Sounds.{is_later};
 
 use super::Listing;
 use crate::founding::FoundingSheet;
-use crate::sheet::Sheet;
+use crate::standing::Standing;
 use terms::{Date, Refusal, Trade};
 
 // Whether a date is later than the last one opened.
 fn is_later(last: Option<Date>, date: Date) -> bool
     ensures { result ≡ is_later last date }
 {
-    match last {
-        None => true,
-        Some(last) => date.is_after(last),
-    }
+    last.is_none_or(|last| date > last)
 }
 
 impl Listing {
     /// Lists a share on its founding sheet.
+    #[tactic(auto, using(crate::proofs::Keeping::founded_sound), unfolding(crate::specs::Sounds::is_current))]
     pub fn new(founding: FoundingSheet) -> Result<Listing, Refusal>
-        ensures { Admitted (in_range founding) result (λ l. (l.terms ≡ terms_of founding) × (l.sheet ≡ founded founding) × (l.last ≡ None)) }
+        ensures { Admitted (in_range founding) result (λ l. (l.standing.terms ≡ terms_of founding) × (l.standing.sheet ≡ founded founding) × (l.last ≡ None)) }
     {
-        let terms = founding.terms()?;
-        let sheet = founding.sheet()?;
         Ok(Listing {
-            terms,
-            sheet,
+            standing: Standing {
+                terms: founding.terms()?,
+                sheet: founding.sheet()?,
+            },
             last: None,
         })
     }
 
-    // The sheet, with the bounds that follow from its soundness.
-    fn bounded(&self) -> Sheet
-        ensures value { result ≡ self.now.sheet }
-        ensures price { is_price result.reference ≡ true }
-        ensures most { result.limit ≤ 28 }
-    {
-        self.sheet
-    }
-
     /// The Reference Price.
+    #[tactic(auto, using(crate::proofs::Keeping::reference_price))]
     pub fn reference(&self) -> u32
-        ensures value { result ≡ self.now.sheet.reference }
+        ensures value { result ≡ self.now.standing.sheet.reference }
         ensures price { is_price result ≡ true }
     {
-        self.bounded().reference
+        self.standing.sheet.reference
     }
 
     /// Limit 1 in percent.
+    #[tactic(auto, using(crate::proofs::Keeping::at_most_28))]
     pub fn limit_1(&self) -> u32
-        ensures value { result ≡ self.now.sheet.limit }
+        ensures value { result ≡ self.now.standing.sheet.limit }
         ensures most { result ≤ 28 }
     {
-        self.bounded().limit
+        self.standing.sheet.limit
     }
 
     /// Limit 2 in percent: Limit 1, unless the cap is narrower.
     pub fn limit_2(&self) -> u32
-        ensures value { result ≡ min self.now.sheet.limit self.now.terms.«cap» }
+        ensures value { result ≡ min self.now.standing.sheet.limit self.now.standing.terms.«cap» }
         ensures most { result ≤ 28 }
     {
-        self.limit_1().min(self.terms.cap)
+        self.limit_1().min(self.standing.terms.cap)
     }
 
     /// Opens a call on a date later than the last.
+    #[tactic(auto, using(crate::proofs::Dating::opened_current))]
     pub fn open(&mut self, date: Date) -> Result<(), Refusal>
         ensures answer { Passed NotLater (is_later self.old.last date) result (λ _. Unit {0}) }
-        ensures terms { self.new.terms ≡ self.old.terms }
-        ensures sheet { self.new.sheet ≡ (if is_later self.old.last date then opened self.old.terms self.old.sheet date else self.old.sheet) }
+        ensures terms { self.new.standing.terms ≡ self.old.standing.terms }
+        ensures sheet { self.new.standing.sheet ≡ (if is_later self.old.last date then opened self.old.standing.terms self.old.standing.sheet date else self.old.standing.sheet) }
         ensures last { self.new.last ≡ (if is_later self.old.last date then Some date else self.old.last) }
     {
         if !is_later(self.last, date) {
             return Err(Refusal::NotLater);
         }
-        self.sheet = self.sheet.opened(self.terms, date);
+        self.standing = self.standing.opened(date);
         self.last = Some(date);
         Ok(())
     }
 
     /// Posts what a call traded, if it did.
+    #[tactic(auto, using(crate::proofs::Dating::posted_current))]
     pub fn post(&mut self, trade: Option<Trade>)
-        ensures terms { self.new.terms ≡ self.old.terms }
-        ensures sheet { self.new.sheet ≡ posted self.old.terms self.old.sheet trade }
+        ensures terms { self.new.standing.terms ≡ self.old.standing.terms }
+        ensures sheet { self.new.standing.sheet ≡ posted self.old.standing.terms self.old.standing.sheet trade }
         ensures last { self.new.last ≡ self.old.last }
     {
-        self.sheet = self.sheet.posted(self.terms, trade);
+        self.standing = self.standing.posted(trade);
     }
 }

@@ -1,16 +1,9 @@
-use Rattle.std.proofs.Common.{◌<◌, ◌≢◌, length, ap, ◌∙◌, arith, length-set, get_or-set_other, get_or-set_same, below_more}
+use Rattle.std.proofs.Common.{◌≡◌, ℕ, ◌+◌, ◌<◌, get_or, ◌∙◌, rules}
+use Rattle.std.proofs.lemmas.List.FromFn.{fill_by_all}
 use Rattle.ladder.specs.Bands.{step_of, row_of}
-use Rattle.annex.proofs.Trying.{row_done}
 use Rattle.annex.proofs.trial.table_row.Goals as goal
 
-pub loop-i-preserved : goal.loop-i-preserved
-loop-i-preserved c = (
-  λ some. c.from.ensures ∙ c.row_at-at.ensures.start,
-  simp length-set c.loop-i.invariant.1,
-  below_more _ _
-      (λ k h. let ne : k ≢ c.loop-i.i = omega arith in rw get_or-set_other (c.loop-i.invariant.2 k h))
-      (let lt : c.loop-i.i < length c.loop-i.row.steps = omega arith in rw get_or-set_same (c.from-in-loop-i.ensures ∙ c.row_at-at.ensures.step ∙ ap (step_of (row_of c.args.p)) c.in-Ok.ensures.1)),
-)
-
 pub returns : goal.returns
-returns c = row_done c.loop-i.row c.args.p (c.loop-i.invariant.0 (omega arith)) c.loop-i.invariant.1 (λ k h. c.loop-i.invariant.2 k (omega arith))
+returns c =
+    let each : (k : ℕ) → k < 6 → get_or c.from_fn.result k 0 ≡ step_of (row_of c.args.p) (k + 1) = λ k h. let call = c.from_fn.ensures.items.at k 0 h in search rules in
+    λ j. record { start = (c.from.ensures ∙ c.band_row.ensures.start) j; steps = fill_by_all (λ i. step_of (row_of c.args.p) (i + 1)) c.from_fn.result 6 0 c.from_fn.ensures.items.long each j }

@@ -1,6 +1,6 @@
-use Rattle.std.proofs.Common.{◌++◌, map, get_or, drop, ap, ◌∙◌, arith}
+use Rattle.std.proofs.Common.{get_or, arith}
 use Rattle.std.proofs.lemmas.List.Edits.{map_over_more}
-use Rattle.std.proofs.lemmas.List.{append-nil, get_or_default, drop_all, take_all}
+use Rattle.std.proofs.lemmas.List.{get_or_default}
 use Rattle.book.specs.Edits.{less_fills}
 use Rattle.book.specs.Orders.{free}
 use Rattle.book.proofs.lines.reduce.Goals as goal
@@ -11,10 +11,3 @@ loop-line-preserved c =
     let ys = c.loop-line.lines in
     let x = get_or ys i free in
     rw c.less_fills-line.ensures (map_over_more (less_fills c.args.fills.now) c.args.lines.now ys i x (omega arith) c.loop-line.invariant (get_or_default ys i free x (omega arith)))
-
-pub returns : goal.returns
-returns c =
-    let i = c.loop-line.line-index in
-    let lines = c.args.lines.now in
-    let f = less_fills c.args.fills.now in
-    c.loop-line.invariant ∙ ap (λ xs. map f xs ++ drop i lines) (take_all i lines c.loop-line-test.false) ∙ ap (λ xs. map f lines ++ xs) (drop_all i lines c.loop-line-test.false) ∙ append-nil (map f lines)

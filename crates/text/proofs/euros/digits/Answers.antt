@@ -1,25 +1,24 @@
-use Rattle.std.proofs.Common.{◌≡◌, ◌+◌, ◌≤◌, true, length, get_or, take, Some, sym, ap, ◌∙◌, arith, rules}
+use Rattle.std.proofs.Common.{◌≡◌, ◌+◌, ◌≤◌, true, length, take, Some, sym, ap, ◌∙◌, arith, rules}
 use Rattle.std.specs.Str.Parse.{digits_value}
 use Rattle.std.specs.Str.{all_ascii_digits}
 use Rattle.std.proofs.lemmas.Int.Digits.{digits_more, digits_value_more}
 use Rattle.std.proofs.lemmas.List.{take_all}
 use Rattle.std.proofs.lemmas.Str.Parse.{digits_value_short}
-use Rattle.std.proofs.lemmas.Str.{digit_value_digit}
 use Rattle.text.proofs.Numbers.{own, digits_read, other_byte, front_small}
 use Rattle.text.proofs.euros.digits.Goals as goal
 
-pub returns-then-not-is_ascii_digit : goal.returns-then-not-is_ascii_digit
-returns-then-not-is_ascii_digit c =
-    record { value = sym (other_byte c.args.most c.args.text.now c.loop-byte.byte-index c.loop-byte-test.true (λ digit. omega (arith, c.if-not-is_ascii_digit.ensures.cases))); small = tt }
+pub returns-in_err-to_digit-clause-value : goal.returns-in_err-to_digit-clause-value
+returns-in_err-to_digit-clause-value c =
+    let none = other_byte c.args.most c.args.text.now c.loop-byte.byte-index c.loop-byte-test.true (λ digit. omega (arith, c.in_err-to_digit.ensures.cases)) in
+    search (rules, none)
 
 pub loop-byte-preserved : goal.loop-byte-preserved
 loop-byte-preserved c =
     let text = c.args.text.now in
     let i = c.loop-byte.byte-index in
-    let test = c.if-not-is_ascii_digit.ensures in
-    let all = digits_more 10 text i (omega arith) c.loop-byte.invariant.0 test.bound in
+    let digit = rw c.from.ensures at c.in_ok-to_digit.ensures.value in
+    let all = digits_more 10 text i (omega arith) c.loop-byte.invariant.0 digit.0 in
     let more = digits_value_more 10 text i (omega arith) in
-    let digit = digit_value_digit (get_or text i 0) test.cases in
     (all, omega arith, λ few. omega (arith, front_small text (i + 1) (omega arith) few all))
 
 pub returns : goal.returns

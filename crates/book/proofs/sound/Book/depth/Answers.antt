@@ -1,7 +1,6 @@
 use Rattle.std.proofs.Common.{arith}
-use Rattle.std.proofs.lemmas.List.{take_all}
 use Rattle.book.specs.declared.order.Side.TheVariants.{Buy, Sell}
-use Rattle.book.proofs.Depths.{depth_more, depth_fits}
+use Rattle.book.proofs.Depths.{depth_fits}
 use Rattle.book.proofs.Standing.{book_stands}
 use Rattle.book.proofs.sound.Book.depth.Goals as goal
 
@@ -16,15 +15,3 @@ overflow_add-offered c =
     let book = c.args.self.now in
     let le = depth_fits Sell c.args.price book.lines.now c.loop-line.line-index c.loop-line.offered c.shares_at-offered.result c.loop-line-test.true c.loop-line.invariant.1 c.shares_at-offered.ensures (book_stands book.next book.lines.now book.sound) in
     omega arith
-
-pub loop-line-preserved : goal.loop-line-preserved
-loop-line-preserved c =
-    let lines = c.args.self.now.lines.now in (
-      depth_more Buy c.args.price lines c.loop-line.line-index _ _ c.loop-line-test.true c.loop-line.invariant.0 c.shares_at-bid.ensures,
-      depth_more Sell c.args.price lines c.loop-line.line-index _ _ c.loop-line-test.true c.loop-line.invariant.1 c.shares_at-offered.ensures,
-    )
-
-pub returns : goal.returns
-returns c =
-    let whole = take_all c.loop-line.line-index c.args.self.now.lines.now c.loop-line-test.false in
-    rw (c.loop-line.invariant.0, c.loop-line.invariant.1, whole)
