@@ -8,7 +8,7 @@ use Rattle.std.proofs.lemmas.List.Sums.{sum_by-append, sum_by-cons}
 use Rattle.std.proofs.lemmas.Bool.{cases_eq, eq-eqb, ne_eqb}
 use Rattle.std.proofs.lemmas.Bool.Decides.{nat_tests}
 use Rattle.book.specs.Depths.{depth_on, trading as trading_at}
-use Rattle.book.specs.Fills.{accepting, all_fills, dealt, Fair, fills_of, gained, other_number, shares_in}
+use Rattle.book.specs.Fills.{accepting, all_fills, dealt, Fair, fills_of, gained, shares_in}
 use Rattle.book.specs.Orders.{accepts, shares_at, told_apart}
 use Rattle.book.specs.Ranked.{ranked}
 use Rattle.book.specs.declared.fill.Fill.{Fill}
@@ -19,7 +19,7 @@ use Rattle.book.proofs.Filling.{kept_told}
 use Rattle.book.proofs.Orderings.{Ordering}
 use Rattle.book.proofs.Rankings.{ranked_by_merit, ranked_apart, IsPermutation-ranked, Contains-from_filter, all_ranked, apart_head, apart_tail, sum_by_kept, Apart}
 use Rattle.book.proofs.Sides.{held_own, held_both, fills_held}
-use Rattle.book.proofs.Standing.{Line, Standing}
+use Rattle.book.proofs.Standing.{other_number, Line, Standing}
 
 abbrev fill_of : ℕ → Order → Fill
 fill_of n x = record { number = x.number; shares = min n x.left }

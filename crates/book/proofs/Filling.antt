@@ -6,7 +6,7 @@ use Rattle.std.proofs.lemmas.List.Kept.{AllPairs-filter}
 use Rattle.std.proofs.lemmas.List.{append_assoc, get_or_default, append-nil, drop-set-lt, length-set, length-take-le, take-append-drop, take_more_set, drop-drop}
 use Rattle.std.proofs.lemmas.List.Sorted.{length_permutation}
 use Rattle.std.proofs.lemmas.Bool.{and_parts, both_ways, ne_eqb}
-use Rattle.book.specs.Fills.{accepting, after, dealt, fills_of, other_number, waits, waiting}
+use Rattle.book.specs.Fills.{accepting, after, dealt, fills_of, waits}
 use Rattle.book.specs.Merits.{FirstEligible, NoneEligible}
 use Rattle.book.specs.Orders.{accepts, free, told_apart}
 use Rattle.book.specs.Ranked.{ranked}
@@ -14,7 +14,12 @@ use Rattle.book.specs.declared.fill.Fill.{Fill}
 use Rattle.book.specs.declared.order.Order.{Order}
 use Rattle.book.specs.declared.order.Side.{Side}
 use Rattle.book.proofs.Orderings.{Ordering}
+use Rattle.book.proofs.Standing.{other_number}
 use Rattle.book.proofs.Rankings.{Contains-filter, all_kept, kept_none, kept_twice, IsPermutation-ranked, ranked_first, Apart}
+
+-- the orders that wait to be served
+abbrev waiting : (Order → Order → Bool) → Side → ℕ → Option Order → List Order → List Order
+waiting before side price last lines = filter (waits before side price last) lines
 
 -- ---- orders of a side are told apart
 both_told : (side : Side) (price : ℕ) (x y : Order) → accepts side price x ≡ true → accepts side price y ≡ true → other_number x y ≡ true → told_apart x y ≡ true

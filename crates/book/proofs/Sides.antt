@@ -5,7 +5,7 @@ use Rattle.std.proofs.lemmas.List.Elements.{All-contains, All-filter, All-head, 
 use Rattle.std.proofs.lemmas.List.Sorted.{length_permutation, sum_by-IsPermutation}
 use Rattle.std.proofs.lemmas.List.Sums.{sum_by-cons}
 use Rattle.std.proofs.lemmas.Bool.{cases_Bool, cond_both, eq-eqb, not-true}
-use Rattle.book.specs.Fills.{accepting, dealt, fills_of, gained, other_number}
+use Rattle.book.specs.Fills.{accepting, dealt, fills_of, gained}
 use Rattle.book.specs.Orders.{accepts}
 use Rattle.book.specs.Ranked.{ranked}
 use Rattle.book.specs.declared.fill.Fill.{Fill}
@@ -13,6 +13,7 @@ use Rattle.book.specs.declared.order.Order.{Order}
 use Rattle.book.specs.declared.order.Side.{Side}
 use Rattle.book.specs.declared.order.Side.TheVariants.{Buy, Sell}
 use Rattle.book.proofs.Rankings.{apart_head, apart_tail, IsPermutation-ranked, Apart}
+use Rattle.book.proofs.Standing.{other_number}
 
 -- ---- two filters of which no item passes both
 module _ {X : Type 0} (p q : X → Bool) (apart : (x : X) → p x ≡ true → q x ≡ true → ⊥) (f : X → ℕ) where

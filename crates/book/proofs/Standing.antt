@@ -1,15 +1,18 @@
 -- What is known of lines that stand in a book. Assumes nothing.
-use Rattle.std.proofs.Common.{◌≡◌, ℕ, ◌+◌, ◌<◌, ◌≤◌, true, false, not, ◌&&◌, leb, List, [], ◌∷◌, length, get_or, drop, ap, ◌∙◌, arith, rules}
+use Rattle.std.proofs.Common.{◌≡◌, ℕ, ◌+◌, ◌<◌, ◌≤◌, Bool, true, false, not, ◌&&◌, eqb, leb, List, [], ◌∷◌, length, get_or, drop, ap, ◌∙◌, arith, rules}
 use Rattle.std.specs.List.{All}
 use Rattle.std.proofs.lemmas.List.{at_drop_more, at_drop_all}
 use Rattle.std.proofs.lemmas.List.Elements.{All-nil, All-cons, All-weaker}
 use Rattle.std.proofs.lemmas.List.Kept.{AllPairs-cons}
 use Rattle.std.proofs.lemmas.Bool.{and_parts, leb-true, ne_eqb}
 use Rattle.book.specs.Orders.{free}
-use Rattle.book.specs.Fills.{other_number}
 use Rattle.book.specs.Sounds.{in_range, may_follow, standing, is_book}
 use Rattle.book.specs.declared.order.Order.{Order}
 use Rattle.book.proofs.Rankings.{apart_none, Apart}
+
+-- orders of different numbers
+abbrev pub other_number : Order → Order → Bool
+other_number x y = not (eqb x.number y.number)
 
 -- ---- the loop over the lines
 module _ (last next : ℕ) (lines : List Order) (i : ℕ) where

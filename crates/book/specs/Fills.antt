@@ -51,10 +51,6 @@ pub record Fair (before : Order → Order → Bool) (price trading : ℕ) (lines
   pub some : All (λ f. 0 < f.shares) (all_fills before price trading lines)
 
 -- ---- for the code
--- orders of different numbers
-abbrev pub other_number : Order → Order → Bool
-other_number x y = not (x.number == y.number)
-
 -- x comes after the last order served, if one was
 abbrev pub after : (Order → Order → Bool) → Option Order → Order → Bool
 after before None x = true
@@ -62,6 +58,3 @@ after before (Some last) x = before last x
 
 abbrev pub waits : (Order → Order → Bool) → Side → ℕ → Option Order → Order → Bool
 waits before side price last x = after before last x && accepts side price x
-
-abbrev pub waiting : (Order → Order → Bool) → Side → ℕ → Option Order → List Order → List Order
-waiting before side price last lines = filter (waits before side price last) lines
