@@ -1,16 +1,14 @@
 -- One step of the search by candidates. Assumes nothing.
-use Rattle.std.proofs.Common.{◌≡◌, ℕ, zero, suc, ◌+◌, ◌-◌, ◌<◌, ◌≤◌, true, false, List, length, get_or, take, Some, None, Option, refl, subst, arith}
+use Rattle.std.proofs.Common.{◌≡◌, ℕ, zero, suc, ◌+◌, ◌-◌, ◌<◌, ◌≤◌, false, List, length, get_or, take, Some, None, Option, refl, subst, arith}
 use Rattle.std.specs.List.{All, Contains}
 use Rattle.std.proofs.lemmas.List.{take_all}
-use Rattle.std.proofs.lemmas.List.Elements.{All-nil, All-from_get_or, All-more, All-weaker, Contains-get_or}
-use Rattle.std.proofs.lemmas.Bool.{false≢true}
+use Rattle.std.proofs.lemmas.List.Elements.{All-nil, All-more, All-weaker}
 use Rattle.std.proofs.lemmas.Bool.Decides.{nat_tests}
 use Rattle.ladder.specs.Rungs.{Rungs, In, Nearest, Lowest, Highest}
-use Rattle.book.specs.Merits.{Chosen}
 use Rattle.book.specs.Orders.{free}
 use Rattle.book.specs.declared.order.Order.{Order}
 use Rattle.auction.specs.Found.{Behind, three, Taken, Foremost, Rightly, Reached, Tried, Improves}
-use Rattle.auction.specs.Marks.{mark, marked, ahead, leads, trades}
+use Rattle.auction.specs.Marks.{mark, marked, ahead, trades}
 use Rattle.auction.specs.Turns.{turn}
 use Rattle.auction.specs.declared.mark.RungMark.{RungMark}
 use Rattle.auction.proofs.Candidates.{covers}
@@ -22,31 +20,10 @@ pub record Searched (rungs : Rungs) (lines : List Order) (reference n : ℕ) (be
   pub here : Tried rungs lines reference reference reference best
   pub each : All (λ x. Tried rungs lines reference (turn x - 1) (turn x) best) (take n lines)
 
--- ---- what the choice of the first among candidates tells
+-- ---- one step
 nothing_behind : (a m : RungMark) → trades (Some a) ≡ false → 0 < m.shares → ahead a m ≡ false
 nothing_behind a m h k = grind (arith, nat_tests)
 
-behind_from : (best x : Option RungMark) → trades best ≡ true → (trades x ≡ true → leads x best ≡ false) → Behind best x
-behind_from None x t f = absurd (false≢true t)
-behind_from (Some m) None t f = refl
-behind_from (Some m) (Some a) t f = grind (arith, nat_tests)
-
-taken_from : (xs : List (Option RungMark)) (best : Option RungMark) → Contains xs best → trades best ≡ true → Taken xs best
-taken_from xs None one t = tt
-taken_from xs (Some m) one t = (one, grind (arith, nat_tests))
-
-pub foremost_some : (xs : List (Option RungMark)) (i : ℕ) → Chosen trades leads xs (length xs) (Some i) → Foremost xs (get_or xs i None)
-foremost_some xs i h =
-    let best = get_or xs i None in
-    record {
-      behind = All-from_get_or (Behind best) xs None (λ k lt. behind_from best (get_or xs k None) (h.1 None) (h.2 k lt None));
-      taken = taken_from xs best (Contains-get_or xs i None h.0) (h.1 None);
-    }
-
-pub foremost_none : (xs : List (Option RungMark)) → Chosen trades leads xs (length xs) None → Foremost xs None
-foremost_none xs h = record { behind = λ k d lt. h k lt d; taken = tt }
-
--- ---- one step
 trades_less : (a m : RungMark) → ahead a m ≡ false → trades (Some m) ≡ false → trades (Some a) ≡ false
 trades_less a m h k = grind (arith, nat_tests)
 

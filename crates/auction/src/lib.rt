@@ -9,5 +9,5 @@ mod turn;
 
 pub use laws::auction_laws;
 pub use mark::RungMark;
-pub use merit::RungMerit;
+pub use merit::{RungMerit, Trades};
 pub use price::{auction_price, price_within};

@@ -28,9 +28,9 @@ impl RungMark {
         let order = self
             .shares
             .cmp(&other.shares)
-            .then(other.surplus.cmp(&self.surplus))
-            .then(other.distance.cmp(&self.distance))
-            .then(self.price.cmp(&other.price));
+            .then_with(|| other.surplus.cmp(&self.surplus))
+            .then_with(|| other.distance.cmp(&self.distance))
+            .then_with(|| self.price.cmp(&other.price));
         order.is_gt()
     }
 }

@@ -1,10 +1,10 @@
 ghost use Rattle.auction.specs.Found.{Foremost, three};
-ghost use Rattle.auction.specs.Marks.{leads as leads_by_merit, mark_apart};
+ghost use Rattle.auction.specs.Marks.{leads as leads_by_merit, mark_apart, trades as trades_a_share};
 ghost use Rattle.auction.specs.Ranks.{leads_one, leads_carries};
 ghost use Rattle.std.proofs.Common.{rules};
 
 use super::mark::RungMark;
-use book::{Distinct, Merit, first_by_merit};
+use book::{Distinct, Merit, Test, first_by_merit};
 
 impl Distinct for RungMark {
     ghost apart = { mark_apart };
@@ -31,12 +31,23 @@ impl Merit<Option<RungMark>> for RungMerit {
     }
 }
 
+/// The test of a mark that may be missing: it is there, and a share trades.
+#[derive(Clone, Copy)]
+pub struct Trades;
+
+impl Test<Option<RungMark>> for Trades {
+    ghost passed = { λ _. trades_a_share };
+
+    fn passes(&self, mark: &Option<RungMark>) -> bool {
+        mark.is_some_and(|mark| mark.trades())
+    }
+}
+
 // The first by merit of the marks at which a share trades.
 fn foremost(marks: &[Option<RungMark>]) -> Option<RungMark>
     ensures { Foremost marks.now result }
 {
-    let trades = |mark: &Option<RungMark>| mark.is_some_and(|mark| mark.trades());
-    let first = first_by_merit(marks, &RungMerit, trades)?;
+    let first = first_by_merit(marks, &RungMerit, &Trades)?;
     marks[first]
 }
 

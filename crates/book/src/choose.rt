@@ -30,8 +30,29 @@ pub trait Merit<T: Distinct> {
     ghost carries: { (m : Self) (x y z : T) → before m x y ≡ true → before m y z ≡ true → before m x z ≡ true };
 }
 
-/// The place of the first by merit among the eligible items: no other eligible one comes before it.
-pub fn first_by_merit<T: Distinct, M: Merit<T>, E: Fn(&T) -> bool>(
+/// A test that an item passes or fails.
+// A trait with a law, where the caller chooses: that a closure may be called at all only a `requires` can ask.
+pub trait Test<T> {
+    ghost passed: { Self → T → Bool };
+
+    /// Whether the item passes.
+    fn passes(&self, item: &T) -> bool
+        ensures { result ≡ passed self.now item.now };
+}
+
+/// The place of the first by merit among the items that pass the test: no other that passes comes before it.
+pub fn first_by_merit<T: Distinct, M: Merit<T>, E: Test<T>>(
+    items: &[T],
+    merit: &M,
+    eligible: &E,
+) -> Option<usize>
+    ensures { Chosen (E.Test.passed eligible.now) (M.Merit.before merit.now) items.now (length items.now) result }
+{
+    first_among(items, merit, |item: &T| eligible.passes(item))
+}
+
+/// The same where a closure is the test.
+pub(crate) fn first_among<T: Distinct, M: Merit<T>, E: Fn(&T) -> bool>(
     items: &[T],
     merit: &M,
     eligible: E,

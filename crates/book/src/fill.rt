@@ -3,7 +3,7 @@ ghost use Rattle.terms.specs.Refusals.{Passed};
 ghost use Rattle.terms.specs.declared.refusal.Refusal.TheVariants.{TooFewRecords};
 ghost use Rattle.book.specs.Fills.{accepting, all_fills, fills_of, Fair, recorded, waits};
 
-use super::choose::{Merit, first_by_merit};
+use super::choose::{Merit, first_among};
 use super::order::{Order, Side};
 use super::sound::Book;
 use terms::Refusal;
@@ -60,7 +60,7 @@ impl<'a, M: Merit<Order>> Deal<'a, M> {
                 return count;
             }
             let waits = |order: &Order| self.waits(side, last, order);
-            let Some(next) = first_by_merit(lines, self.merit, waits) else {
+            let Some(next) = first_among(lines, self.merit, waits) else {
                 return count;
             };
             let line = lines[next];

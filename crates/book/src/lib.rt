@@ -10,7 +10,7 @@ mod merit;
 mod order;
 mod sound;
 
-pub use choose::{Distinct, Merit, first_by_merit};
+pub use choose::{Distinct, Merit, Test, first_by_merit};
 pub use fill::Fill;
 pub use laws::book_laws;
 pub use lines::Lines;
