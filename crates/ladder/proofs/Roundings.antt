@@ -1,10 +1,8 @@
 -- Multiples of a step: the nearest at or below a number, and at or above it. Assumes nothing.
-use Rattle.std.proofs.Common.{◌≡◌, ◌∙◌, ◌-◌, ltb, leb, max, ◌^◌, Option, Some, None, ℕ, ◌+◌, ◌*◌, ◌/◌, ◌%◌, ◌<◌, ◌≤◌, min, ⊎_elim, mod-lt, add-mul, div-add-mod', arith}
-use Rattle.std.proofs.Math.Nat.{mul-mod_left, add-mod-mod, dvd-sub}
+use Rattle.std.proofs.Common.{◌≡◌, ltb, leb, max, Option, ℕ, ◌+◌, ◌*◌, ◌/◌, ◌%◌, ◌<◌, ◌≤◌, min, ⊎_elim, mod-lt, add-mul, div-add-mod', arith}
+use Rattle.std.proofs.Math.Nat.{mul-mod_left, dvd-sub}
 use Rattle.std.proofs.lemmas.Nat.Gcd.{le_of_dvd, dvd_of_mod-eq-zero}
 use Rattle.std.specs.Bool.{then_some}
-use Rattle.std.specs.Option.{SomeIff, MatchOption}
-use Rattle.std.specs.Int.{next_multiple_of}
 use Rattle.std.proofs.lemmas.Bool.{cases_lt, lt-ltb, le-ltb, le-leb, lt-leb}
 use Rattle.ladder.specs.Rungs.{Lowest, Highest}
 use Rattle.std.proofs.lemmas.Bool.Decides.{nat_tests}
@@ -38,25 +36,36 @@ goes_down s x h =
       best = λ k le hk. nearest s k (down s x) hk (mul-mod_left (x / s) s) (omega arith);
     }
 
+-- the whole steps that go into x, and one more where they fall short
+abbrev pub up : ℕ → ℕ → ℕ
+up s x = (x / s + min 1 (x % s)) * s
+
 record Up (s x : ℕ) : Type 0 where
-  on : next_multiple_of x s % s ≡ 0
-  at : x ≤ next_multiple_of x s
-  best : (k : ℕ) → x ≤ k → k % s ≡ 0 → next_multiple_of x s ≤ k
+  on : up s x % s ≡ 0
+  at : x ≤ up s x
+  close : up s x < x + s
+  best : (k : ℕ) → x ≤ k → k % s ≡ 0 → up s x ≤ k
 
-multiple_on : (s x : ℕ) → 0 < s → next_multiple_of x s % s ≡ 0
-multiple_on s x h =
-    let e = div-add-mod' x s in
-    let m = mod-lt x h in
-    let is : x + (s - x % s) ≡ (x / s + 1) * s = omega (arith, add-mul (x / s) 1 s) in
-    add-mod-mod x (s - x % s) s ∙ rw is (mul-mod_left (x / s + 1) s)
-
+-- a number is up to a step below the multiple
 goes_up : (s x : ℕ) → 0 < s → Up s x
 goes_up s x h =
-    let m = mod-lt (s - x % s) h in
+    let e = div-add-mod' x s in
+    let m = mod-lt x h in
+    let on = mul-mod_left (x / s + min 1 (x % s)) s in
+    let ends : (x ≤ up s x) × (up s x < x + s) =
+    ⊎_elim
+    (λ (lt : x % s < 1).
+    let none : min 1 (x % s) ≡ 0 = omega arith in
+    rw none (omega (arith, add-mul (x / s) 0 s), omega (arith, add-mul (x / s) 0 s)))
+    (λ (ge : 1 ≤ x % s).
+    let one : min 1 (x % s) ≡ 1 = omega arith in
+    rw one (omega (arith, add-mul (x / s) 1 s), omega (arith, add-mul (x / s) 1 s)))
+    (cases_lt (x % s) 1) in
     record {
-      on = multiple_on s x h;
-      at = omega arith;
-      best = λ k le hk. nearest s (next_multiple_of x s) k (multiple_on s x h) hk (omega arith);
+      on = on;
+      at = ends.0;
+      close = ends.1;
+      best = λ k le hk. nearest s (up s x) k on hk (omega arith);
     }
 
 -- rounding down, then dropping 0, which is no price
@@ -72,24 +81,18 @@ rounds_down s p m r low last is =
     rw (is, le-ltb 0 _ le) (λ k h hk. let best = d.best k (grind (arith, nat_tests)) (grind (arith, nat_tests)) in grind (arith, nat_tests)))
     (cases_lt 0 (down s m))
 
--- rounding up, then dropping what is above the last price or does not fit
-pub rounds_up : (s p m : ℕ) → 0 < s → m ≡ max p 1 → (o r : Option ℕ) → SomeIff o ((0 < s) × (next_multiple_of m s < 2 ^ 32)) (next_multiple_of m s) → MatchOption o (r ≡ None) (λ x. r ≡ then_some (leb x 1000000000) x) → Lowest (multiples s) p r
-rounds_up s p m low first None r made kept =
+-- rounding up from no farther than behind the last price, then dropping what is above it
+pub rounds_up : (s p m : ℕ) (r : Option ℕ) → 0 < s → m ≡ min (max p 1) 1000000001 → r ≡ then_some (leb (up s m) 1000000000) (up s m) → Lowest (multiples s) p r
+rounds_up s p m r low first is =
     let u = goes_up s m low in
-    rw kept (λ k le on.
-    let best = u.best k (grind (arith, nat_tests)) (grind (arith, nat_tests)) in
-    made (low, grind (arith, nat_tests)))
-rounds_up s p m low first (Some x) r made kept =
-    let u = goes_up s m low in
-    let is = made.1 in
     let on = u.on in
     let at = u.at in
     ⊎_elim
-    (λ (lt : 1000000000 < x).
-    rw (kept, lt-leb x _ lt) (λ k le hk. let best = u.best k (grind (arith, nat_tests)) (grind (arith, nat_tests)) in grind (arith, nat_tests)))
-    (λ (le : x ≤ 1000000000).
-    rw (kept, le-leb x _ le) (grind (arith, nat_tests), omega arith, λ k le hk. let best = u.best k (grind (arith, nat_tests)) (grind (arith, nat_tests)) in omega arith))
-    (cases_lt 1000000000 x)
+    (λ (lt : 1000000000 < up s m).
+    rw (is, lt-leb _ _ lt) (λ k le hk. let best = u.best k (grind (arith, nat_tests)) (grind (arith, nat_tests)) in grind (arith, nat_tests)))
+    (λ (le : up s m ≤ 1000000000).
+    rw (is, le-leb _ _ le) (grind (arith, nat_tests), omega arith, λ k le hk. u.best k (grind (arith, nat_tests)) (grind (arith, nat_tests))))
+    (cases_lt 1000000000 (up s m))
 
 -- a price is a multiple when whole steps make it
 pub whole_steps : WholeSteps

@@ -1,17 +1,11 @@
 -- The tick table as a list of rows by the rule, and which of them a number is in. Assumes nothing.
-use Rattle.std.proofs.Common.{◌≡◌, ℕ, suc, ◌+◌, ◌-◌, ◌<◌, ◌≤◌, true, false, List, length, get_or, leb, leb-true, leb-false, sym, ap, ◌∙◌, ⊎_elim, arith}
-use Rattle.std.specs.Prelude.{slice_index}
-use Rattle.std.specs.List.Sorted.{IsNonDecreasingBy, IsPartitionPoint}
-use Rattle.std.proofs.lemmas.Bool.{cases_lt}
+use Rattle.std.proofs.Common.{◌≡◌, ℕ, suc, ◌+◌, ◌-◌, ◌<◌, ◌≤◌, true, false, List, length, Option, Some, None, get_or, leb, leb-true, leb-false, sym, ap, ◌∙◌, arith}
+use Rattle.std.specs.Prelude.{slice_index, unwrap_or, MatchOption}
 use Rattle.std.proofs.lemmas.List.FromFn.{get_or-map-range_with_len}
 use Rattle.ladder.specs.Bands.{start, step_of, row_of}
 use Rattle.ladder.specs.TickRows.{rule, ticks}
 use Rattle.ladder.specs.declared.rows.TickRow.{TickRow}
-use Rattle.ladder.proofs.Starts.{start_mono, start_zero, row_is}
-
--- i counts the rows that start at or below p
-abbrev pub Point : List TickRow → ℕ → ℕ → Type 0
-Point rows p i = IsPartitionPoint (λ (r : TickRow). leb r.start p ≡ true) (λ (r : TickRow). leb r.start p ≡ false) rows i
+use Rattle.ladder.proofs.Starts.{start_zero, row_is}
 
 module _ (rows : List TickRow) (by_rule : rows ≡ ticks) where
   many : length rows ≡ 19
@@ -20,48 +14,31 @@ module _ (rows : List TickRow) (by_rule : rows ≡ ticks) where
   entry : (r : ℕ) (d : TickRow) → r < 19 → get_or rows r d ≡ rule r
   entry r d lt = rw by_rule (get_or-map-range_with_len rule 0 19 r r d lt (omega arith))
 
-  pub rows_rise : IsNonDecreasingBy (λ (r : TickRow). r.start) rows
-  rows_rise i j d le lt =
+  -- what the search from the last row on says: no row, or one that starts at or below p and none behind it that does
+  abbrev pub Found : ℕ → Option ℕ → Type 0
+  Found p found =
+      MatchOption found
+      ((k : ℕ) (d : TickRow) → k < length rows → leb (get_or rows k d).start p ≡ false)
+      (λ i. (i < length rows) × ((d : TickRow) → leb (get_or rows i d).start p ≡ true) × ((k : ℕ) (d : TickRow) → i + 1 ≤ k → k < length rows → leb (get_or rows k d).start p ≡ false))
+
+  above : (p r : ℕ) → r < 19 → leb (get_or rows r (rule 0)).start p ≡ false → p < start r
+  above p r lt t = leb-false _ _ (sym (ap (λ (t : TickRow). leb t.start p) (entry r (rule 0) lt)) ∙ t)
+
+  -- row 0 starts at 0, so there is one
+  pub there : (p : ℕ) (found : Option ℕ) (d : TickRow) → Found p found → get_or rows (unwrap_or found 0) d ≡ rule (row_of p)
+  there p None d none =
       let n = many in
-      let low = ap (λ (r : TickRow). r.start) (entry i d (omega arith)) in
-      let high = ap (λ (r : TickRow). r.start) (entry j d (omega arith)) in
-      omega (arith, low, high, start_mono i j le (omega arith))
-
-  module _ (p i : ℕ) (bound : i ≤ length rows) (at : Point rows p i) where
-    below : (r : ℕ) → r < i → start r ≤ p
-    below r lt =
-        let n = many in
-        leb-true _ _ (sym (ap (λ (t : TickRow). leb t.start p) (entry r (rule 0) (omega arith))) ∙ at.0 r (rule 0) (omega arith) lt)
-
-    above : (r : ℕ) → i ≤ r → r < 19 → p < start r
-    above r le lt =
-        let n = many in
-        leb-false _ _ (sym (ap (λ (t : TickRow). leb t.start p) (entry r (rule 0) lt)) ∙ at.1 r (rule 0) le (omega arith))
-
-    -- row 0 starts at 0
-    pub some : 0 < i
-    some =
-        ⊎_elim
-        (λ (lt : 0 < i). lt)
-        (λ (le : i ≤ 0). absurd (omega (arith, above 0 le (omega arith), start_zero)))
-        (cases_lt 0 i)
-
-    is_last : row_of p ≡ i - 1
-    is_last =
-        let h = some in
-        let n = many in
-        let e : suc (i - 1) ≡ i = omega arith in
-        row_is p (i - 1) (record {
-          row = omega arith;
-          low = below (i - 1) (omega arith);
-          high = λ lt. rw e (above i (omega arith) (omega arith));
-        })
-
-    pub there : (d : TickRow) → get_or rows (i - 1) d ≡ rule (row_of p)
-    there d =
-        let n = many in
-        let h = some in
-        rw is_last (entry (i - 1) d (omega arith))
+      absurd (omega (arith, above p 0 (omega arith) (none 0 (rule 0) (omega arith)), start_zero))
+  there p (Some i) d last =
+      let n = many in
+      let lt = last.0 in
+      let low : start i ≤ p = leb-true _ _ (sym (ap (λ (t : TickRow). leb t.start p) (entry i (rule 0) (omega arith))) ∙ last.1 (rule 0)) in
+      let is : row_of p ≡ i = row_is p i (record {
+        row = omega arith;
+        low = low;
+        high = λ h. above p (suc i) (omega arith) (last.2 (suc i) (rule 0) (omega arith) (omega arith));
+      }) in
+      rw is (entry i d (omega arith))
 
 pub step_by_rule : (r band : ℕ) → 0 < band → band ≤ 6 → slice_index (rule r).steps (band - 1) ≡ step_of r band
 step_by_rule r band low high =

@@ -39,9 +39,8 @@ impl<const MOST: u32> Ladder for Multiples<MOST> {
 
     #[tactic(auto, using(crate::proofs::Roundings::rounds_up))]
     fn at_or_above(&self, p: u32) -> Option<u32> {
-        p.max(1)
-            .checked_next_multiple_of(self.step)
-            .filter(|rung| *rung <= MAX_PRICE)
+        let rung = p.clamp(1, MAX_PRICE + 1).div_ceil(self.step) * self.step;
+        (rung <= MAX_PRICE).then_some(rung)
     }
 
     #[tactic(auto, using(crate::proofs::Roundings::rounds_down))]

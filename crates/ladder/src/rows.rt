@@ -98,20 +98,21 @@ const ROWS: [TickRow; 19] = [
 ];
 
 // The row that a number is in, of rows that are the rule's.
-fn row_among(rows: &[TickRow; 19], p: u32) -> TickRow
+fn row_among(rows: &[TickRow; 19], p: u32) -> &TickRow
     requires { rows.now ≡ ticks }
-    ensures { result ≡ rule (row_of p) }
+    ensures { result.now ≡ rule (row_of p) }
 {
-    // row 0 starts at 0, so at least one row starts at or below p
-    rows[rows.partition_point(|row| row.starts_by(p)) - 1]
+    // One by one, from the last: the prices of a call lie in few rows, so that the processor foresees each test.
+    // Row 0 starts at 0, so there is such a row.
+    &rows[rows.iter().rposition(|row| row.starts_by(p)).unwrap_or(0)]
 }
 
 /// The row that a number is in.
 // The rule is opened here, so that the check computes it at each row of the table.
 #[tactic(auto, using(crate::proofs::TickRows::step_by_rule), unfolding(crate::specs::Bands::start, crate::specs::Bands::step_of, crate::specs::Bands::series))]
-pub(crate) fn row_at(p: u32) -> TickRow
-    ensures start { result.start ≡ start (row_of p) }
-    ensures steps { (band : ℕ) → 0 < band → band ≤ 6 → slice_index result.steps (band - 1) ≡ step_of (row_of p) band }
+pub(crate) fn row_at(p: u32) -> &'static TickRow
+    ensures start { result.now.start ≡ start (row_of p) }
+    ensures steps { (band : ℕ) → 0 < band → band ≤ 6 → slice_index result.now.steps (band - 1) ≡ step_of (row_of p) band }
 {
     row_among(&ROWS, p)
 }
