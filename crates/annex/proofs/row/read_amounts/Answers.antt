@@ -1,26 +1,35 @@
-use Rattle.std.proofs.Common.{◌<◌, ◌==◌, sym, ap, ◌∙◌, refl, arith, rules}
-use Rattle.std.specs.Slice.Iter.{split_rest}
+use Rattle.std.proofs.Common.{◌≡◌, ◌<◌, ◌≤◌, ◌==◌, true, sym, ap, ◌∙◌, ⊎_elim, arith, rules}
+use Rattle.std.specs.Slice.Iter.{split_rest, split_done, splitn_count, splitn_parts}
 use Rattle.std.proofs.lemmas.List.Sorted.{answers_always}
-use Rattle.annex.proofs.Reading.{seven, seven_start, seven_more, seven_bad, seven_ended}
+use Rattle.annex.proofs.Reading.{seven, seven_more, seven_bad, seven_ended, seven_done}
 use Rattle.annex.proofs.row.read_amounts.Goals as goal
-
-pub loop-amount-init : goal.loop-amount-init
-loop-amount-init c = (refl, search (rules, seven_start))
 
 pub returns-in_err-next : goal.returns-in_err-next
 returns-in_err-next c =
-    let short : c.loop-amount.amount-index < 7 = omega (arith, c.loop-amount.invariant.0) in
-    let ended = ap (λ d. seven c.loop-amount.amount-index c.loop-amount.amount-items d (split_rest c.loop-amount.fields)) c.in_err-next.ensures.steps.0 ∙ seven_ended _ _ _ short in
-    c.from_residual.ensures ∙ sym ended ∙ c.loop-amount.invariant.1
+    let inv = c.loop-amount.invariant in
+    let short : c.loop-amount.amount-index < 7 = omega (arith, inv.0) in
+    let done : split_done (splitn_parts c.loop-amount.fields) ≡ true =
+    ⊎_elim (λ (none : splitn_count c.loop-amount.fields ≡ 0). absurd (omega (arith, none, inv.1))) (λ d. d) c.in_err-next.ensures.steps.1 in
+    let ended = ap (λ d. seven c.loop-amount.amount-index c.loop-amount.amount-items d (split_rest (splitn_parts c.loop-amount.fields))) done ∙ seven_ended _ _ _ short in
+    c.from_residual.ensures ∙ sym ended ∙ inv.3
 
 pub returns-in_err-amount : goal.returns-in_err-amount
 returns-in_err-amount c =
-    let short : c.loop-amount.amount-index < 7 = omega (arith, c.loop-amount.invariant.0) in
-    let steps = c.in_ok-next.ensures.steps in
-    c.from_residual-in_err-amount.ensures ∙ sym (seven_bad _ _ _ _ _ _ _ short (record { on = steps.0; goes = steps.1; first = (steps.2 (λ b. b == 59) (answers_always _ _ _ (λ f a r q call. search rules))).1 }) (search rules)) ∙ c.loop-amount.invariant.1
+    let inv = c.loop-amount.invariant in
+    let short : c.loop-amount.amount-index < 7 = omega (arith, inv.0) in
+    let step = c.in_ok-next.ensures.steps.1 in
+    c.from_residual-in_err-amount.ensures ∙ sym (seven_bad _ _ _ _ _ _ _ short step.3 (record { goes = step.2; last = λ z. step.1 (omega (arith, z, inv.1)); first = λ some. (step.4 (omega (arith, some, inv.1)) (λ b. b == 59) (answers_always _ _ _ (λ f a r q call. search rules))).1 }) (search rules)) ∙ inv.3
 
 pub loop-amount-preserved : goal.loop-amount-preserved
 loop-amount-preserved c =
-    let short : c.loop-amount.amount-index < 7 = omega (arith, c.loop-amount.invariant.0) in
+    let inv = c.loop-amount.invariant in
+    let short : c.loop-amount.amount-index < 7 = omega (arith, inv.0) in
     let steps = c.in_ok-next.ensures.steps in
-    (search rules, seven_more _ _ _ _ _ _ _ _ short c.loop-amount.invariant.0 (record { on = steps.0; goes = steps.1; first = (steps.2 (λ b. b == 59) (answers_always _ _ _ (λ f a r q call. search rules))).1 }) (search rules) ∙ c.loop-amount.invariant.1)
+    let step = steps.1 in
+    (search rules, omega (arith, steps.0, inv.1), λ h. step.1 (omega (arith, inv.1)), seven_more _ _ _ _ _ _ _ _ short inv.0 step.3 (record { goes = step.2; last = λ z. step.1 (omega (arith, z, inv.1)); first = λ some. (step.4 (omega (arith, some, inv.1)) (λ b. b == 59) (answers_always _ _ _ (λ f a r q call. search rules))).1 }) (search rules) ∙ inv.3)
+
+pub returns : goal.returns
+returns c =
+    let inv = c.loop-amount.invariant in
+    let all : 7 ≤ c.loop-amount.amount-index = omega (arith, inv.0) in
+    sym (seven_done _ _ _ all inv.0) ∙ ap (λ d. seven c.loop-amount.amount-index c.loop-amount.amount-items d (split_rest (splitn_parts c.loop-amount.fields))) (sym (inv.2 all)) ∙ inv.3
