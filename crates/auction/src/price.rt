@@ -23,6 +23,8 @@ struct Search<'a, L> {
 
 impl<L: Ladder> Search<'_, L> {
     // The mark of a rung, if there is one.
+    // A function of its own in the program too: beside the ladder's code, its loop over the lines took up to a fifth longer.
+    #[inline(never)]
     fn weighed(&self, rung: Option<u32>) -> Option<RungMark>
         ensures { result ≡ marked self.now.book.now.lines.now self.now.reference rung }
     {
